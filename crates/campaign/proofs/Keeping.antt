@@ -1,7 +1,6 @@
 -- Rows that are kept.
-use Rattle.std.specs.Prelude.{nat_lt, slice_get, Some, if◌then◌else◌}
-use Rattle.std.proofs.lemmas.Option.{slice_get_within}
-use Rattle.std.proofs.lemmas.Bool.Decides.{nat_tests}
+use Rattle.std.specs.Prelude.{slice_get, Some, if◌then◌else◌}
+use Rattle.std.proofs.lemmas.Option.{same_Some, slice_get_within}
 use Rattle.std.proofs.Common.{◌≡◌, ℕ, ◌≤◌, ◌<◌, ◌+◌, Bool, true, false, List, [], ◌∷◌, ◌++◌, length, length-append}
 use Rattle.std.proofs.Common.{slice_index, slice_index_or, take, drop, refl, sym, ap, ap₂, subst, ◌∙◌, append-nil, append_assoc}
 use Rattle.std.proofs.Common.{arith}
@@ -13,7 +12,7 @@ use Rattle.model.specs.declared.event.Event.{Event}
 use Rattle.model.specs.declared.plan.Injection.{Injection}
 use Rattle.model.specs.Points.{first_step}
 use Rattle.model.specs.Application.{Application, Limits}
-use Rattle.model.specs.Run.{Run, IsRun, events_after}
+use Rattle.model.specs.Run.{Run, IsRun, events_after, is_reached}
 use Rattle.model.proofs.Injected.{begins_with, no_fewer}
 use Rattle.machine.specs.declared.machine.Machine.{Machine}
 use Rattle.shelf.specs.declared.row.RowBeginning.{RowBeginning}
@@ -25,6 +24,7 @@ use Rattle.deal.specs.Parts.{zeros}
 use Rattle.deal.specs.Tallies.{Sheet, Tallied}
 use Rattle.rows.specs.declared.rows.KeptRow.{KeptRow}
 use Rattle.campaign.specs.declared.ahead.Ahead.{Ahead}
+use Rattle.campaign.specs.declared.worker.Outcome.{Outcome}
 use Rattle.rows.specs.declared.link.Leg.{Leg}
 use Rattle.rows.specs.declared.link.Link.{Link}
 use Rattle.rows.specs.declared.link.Link.TheVariants as link
@@ -38,12 +38,6 @@ use Rattle.campaign.proofs.Ends.{kind_in-append, kind_in-few}
 use Rattle.rows.proofs.Linked.{closed_grows, closed_legs, closed_tells, grows_here, grows_then, same_legs, same_told}
 use Rattle.rows.proofs.Linked.{still_link, told_no_more}
 use Rattle.rows.proofs.LookedUp.{all_got}
-
-less : (a b : ℕ) → a < b → nat_lt a b ≡ true
-less a b l = grind (arith, nat_tests)
-
-no_less : (a b : ℕ) → b ≤ a → nat_lt a b ≡ false
-no_less a b l = grind (arith, nat_tests)
 
 -- ---- a row of its own
 
@@ -96,23 +90,31 @@ module _ (app : Application) (limits : Limits) (view : View) (base : Run)
 
     -- a row that is reached begins as the base run does, and goes on by the leg with which it is closed
     pub reached_row : (new : Store) → beginning.before ≡ length (events_after app limits [] (first_step point))
-        → first_step point < base.steps → shows_events view rest.end ≡ true
+        → first_step point < base.steps → is_reached app limits point base.steps ≡ true → shows_events view rest.end ≡ true
         → new.trail ≡ over.trail → new.legs ≡ over.legs ++ record { to = length over.trail; next = rest.told } ∷ []
         → (from : ℕ) → from ≡ length old.trail
         → (told : Link) → told ≡ link.Leg (length over.legs) from
         → GainsRow app limits view base point old new (record {
           point = point;
+          reached = true;
           shared = beginning.before;
           told = told;
           steps = rest.steps;
           ticks = rest.ticks;
           end = rest.end;
         })
-    reached_row new before l shown trail pushed from e told to =
+    reached_row new before l comes shown trail pushed from e told to =
         let leg : Leg = record { to = length over.trail; next = rest.told } in
         let next = goes.told shown in
-        let kept : KeptRow =
-        record { point = point; shared = beginning.before; told = told; steps = rest.steps; ticks = rest.ticks; end = rest.end } in
+        let kept : KeptRow = record {
+          point = point;
+          reached = true;
+          shared = beginning.before;
+          told = told;
+          steps = rest.steps;
+          ticks = rest.ticks;
+          end = rest.end;
+        } in
         let low : from ≤ length over.trail = omega (arith, ap length its_events, length-append old.trail (begun.own ++ goes.own)) in
         let closed : Tells base.events new told (drop from over.trail ++ goes.events) =
         subst (λ (l : Link). Tells base.events new l (drop from over.trail ++ goes.events)) (sym to)
@@ -123,7 +125,6 @@ module _ (app : Application) (limits : Limits) (view : View) (base : Run)
         let front = events_after app limits [] (first_step point) in
         let first : take beginning.before base.events ≡ front =
         rw (before, is.trace) (begins_with app limits [] (first_step point) base.steps within) in
-        let reaches = less (first_step point) base.steps l in
         let events : events_after app limits point k.steps ++ (goes.own ++ goes.events)
         ≡ take beginning.before base.events ++ told_at base.events new told =
         ap (λ (es : List Event). es ++ (goes.own ++ goes.events)) begun.events
@@ -141,37 +142,43 @@ module _ (app : Application) (limits : Limits) (view : View) (base : Run)
             };
             is_seen = record {
               whole = row_of base new kept;
-              is_row =
-                  rw reaches (
-                    base,
-                    is,
-                    l,
-                    subst
-                        (λ (told : List Event).
-                        IsRun app point limits (record { events = told; steps = rest.steps; ticks = rest.ticks; end = rest.end }))
-                        events goes.is_row,
-                  );
+              is_row = (
+                base,
+                is,
+                comes,
+                subst
+                    (λ (told : List Event).
+                    IsRun app point limits (record { events = told; steps = rest.steps; ticks = rest.ticks; end = rest.end }))
+                    events goes.is_row,
+              );
               is = ap (λ (with_events : Bool). row_with with_events (row_of base new kept)) (sym shown);
             };
           };
         }
 
     -- one whose events are not shown is kept without them
-    pub bare_row : (new : Store) → first_step point < base.steps → shows_events view rest.end ≡ false
+    pub bare_row : (new : Store) → is_reached app limits point base.steps ≡ true → shows_events view rest.end ≡ false
         → (from : ℕ) → from ≡ length old.trail → new.trail ≡ take from over.trail
         → new.legs ≡ over.legs → (told : Link) → told ≡ link.Base (length base.events)
         → GainsRow app limits view base point old new
-        (record { point = point; shared = 0; told = told; steps = rest.steps; ticks = rest.ticks; end = rest.end })
-    bare_row new l hidden from e cut gone told to =
+        (record {
+          point = point;
+          reached = true;
+          shared = 0;
+          told = told;
+          steps = rest.steps;
+          ticks = rest.ticks;
+          end = rest.end;
+        })
+    bare_row new comes hidden from e cut gone told to =
         let back : new.trail ≡ old.trail = dropped new.trail from e cut in
         let as_it_was : new.legs ≡ old.legs = gone ∙ still ∙ same in
         let grown = grows_by_none old new back as_it_was in
         let nothing : Tells base.events new told [] =
         subst (λ (l : Link). Tells base.events new l []) (sym to) (told_no_more base.events new (length base.events) refl) in
-        let reaches = less (first_step point) base.steps l in
         let its_row : Row = record {
           point = point;
-          reached = nat_lt (first_step point) base.steps;
+          reached = true;
           run =
               record {
                 events = events_after app limits point k.steps ++ (goes.own ++ goes.events);
@@ -188,7 +195,7 @@ module _ (app : Application) (limits : Limits) (view : View) (base : Run)
             is_kept = record { shared = omega arith; link = nothing.there };
             is_seen = record {
               whole = its_row;
-              is_row = rw reaches (base, is, l, goes.is_row);
+              is_row = (base, is, comes, goes.is_row);
               is = ap (λ (es : List Event). record its_row { run = record its_row.run { events = es } }) nothing.are
                   ∙ ap (λ (with_events : Bool). row_with with_events its_row) (sym hidden);
             };
@@ -197,20 +204,45 @@ module _ (app : Application) (limits : Limits) (view : View) (base : Run)
 
   -- one that isn't reached is the base run
   pub missed_row : (store : Store) → AreLegs base.events store → (b : Run) (shared : ℕ) (told : Link) → b ≡ base
-      → base.steps ≤ first_step point → shared ≡ (if shows_events view b.end then length b.events else 0)
+      → is_reached app limits point base.steps ≡ false
+      → shared ≡ (if shows_events view b.end then length b.events else 0)
       → told ≡ link.Base (length b.events)
       → GainsRow app limits view base point store store
-      (record { point = point; shared = shared; told = told; steps = b.steps; ticks = b.ticks; end = b.end })
-  missed_row store legs b shared told same l count to = subst
+      (record {
+        point = point;
+        reached = false;
+        shared = shared;
+        told = told;
+        steps = b.steps;
+        ticks = b.ticks;
+        end = b.end;
+      })
+  missed_row store legs b shared told same missed count to = subst
       (λ (r : Run).
       GainsRow app limits view base point store store
-      (record { point = point; shared = shared; told = told; steps = r.steps; ticks = r.ticks; end = r.end }))
+      (record {
+        point = point;
+        reached = false;
+        shared = shared;
+        told = told;
+        steps = r.steps;
+        ticks = r.ticks;
+        end = r.end;
+      }))
       (sym same) (its_row (subst (λ (r : Run). shared ≡ (if shows_events view r.end then length r.events else 0)) same count)
       (subst (λ (r : Run). told ≡ link.Base (length r.events)) same to))
     where
       its_row : shared ≡ (if shows_events view base.end then length base.events else 0) → told ≡ link.Base (length base.events)
           → GainsRow app limits view base point store store
-          (record { point = point; shared = shared; told = told; steps = base.steps; ticks = base.ticks; end = base.end })
+          (record {
+            point = point;
+            reached = false;
+            shared = shared;
+            told = told;
+            steps = base.steps;
+            ticks = base.ticks;
+            end = base.end;
+          })
       its_row count to =
           let shown = shows_events view base.end in
           let taken = taken_by shown base.events shared count in
@@ -218,8 +250,7 @@ module _ (app : Application) (limits : Limits) (view : View) (base : Run)
           subst (λ (l : Link). Tells base.events store l []) (sym to) (told_no_more base.events store (length base.events) refl) in
           let its : take shared base.events ++ told_at base.events store told ≡ own_of_all shown base.events =
           ap₂ (λ (xs ys : List Event). xs ++ ys) taken.1 nothing.are ∙ append-nil (own_of_all shown base.events) in
-          let whole : Row = record { point = point; reached = nat_lt (first_step point) base.steps; run = base } in
-          let misses = no_less (first_step point) base.steps l in
+          let whole : Row = record { point = point; reached = false; run = base } in
           record {
             grows = grows_here store;
             legs = legs;
@@ -228,7 +259,7 @@ module _ (app : Application) (limits : Limits) (view : View) (base : Run)
               is_kept = record { shared = taken.0; link = nothing.there };
               is_seen = record {
                 whole = whole;
-                is_row = rw misses (is, l);
+                is_row = (is, missed);
                 is =
                     ap (λ (events : List Event). record whole { run = record whole.run { events = events } }) its
                     ∙ with_own shown whole;
@@ -399,13 +430,16 @@ module _ (app : Application) (limits : Limits) (view : View) (base : Run) where
   pub kept_again : (point : List Injection) (store : Store) (kept kept' : List KeptRow) (number : ℕ)
       → AreLegs base.events store → AreKnown app limits view base kept store
       → (among : IsAmong kept point number) → ((row : KeptRow) → slice_get kept number ≡ Some row → kept' ≡ kept ++ row ∷ [])
-      → (row : KeptRow) → slice_get kept number ≡ Some row → KeepsRow app limits view base point kept kept' store store row.end
-  kept_again point store kept kept' number legs known among more row is =
-      let same : Some among.row ≡ Some row = sym among.is ∙ is in
+      → (row : KeptRow) → slice_get kept number ≡ Some row → (outcome : Outcome)
+      → outcome ≡ record { reached = row.reached; end = row.end }
+      → KeepsRow app limits view base point kept kept' store store outcome
+  kept_again point store kept kept' number legs known among more row is outcome its =
+      let same : among.row ≡ row = same_Some among.row row (sym among.is ∙ is) in
       record {
         row = among.row;
         rows_are = more among.row among.is;
-        ends = cc;
+        reached = ap (λ (k : KeptRow). k.reached) same ∙ sym (ap (λ (o : Outcome). o.reached) its);
+        ends = ap (λ (k : KeptRow). k.end) same ∙ sym (ap (λ (o : Outcome). o.end) its);
         gains = row_again point store kept number legs known among;
       }
 

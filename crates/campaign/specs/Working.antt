@@ -26,6 +26,7 @@ use Rattle.campaign.specs.declared.mark.Passed.{Passed}
 use Rattle.campaign.specs.declared.runner.Runner.{Runner}
 use Rattle.campaign.specs.declared.worker.Job.{Job}
 use Rattle.campaign.specs.declared.worker.Done.{Done}
+use Rattle.campaign.specs.declared.worker.Outcome.{Outcome}
 use Rattle.campaign.specs.Kinds.{kind_in}
 use Rattle.rows.specs.Links.{Store, AreLegs, Grows, Tells}
 use Rattle.rows.specs.Report.{row_of, rows_of, store_of, IsKept, AreKept}
@@ -68,13 +69,14 @@ pub record IsAmong (rows : List KeptRow) (point : List Injection) (number : ℕ)
   pub is : slice_get rows number ≡ Some row
   pub at_point : row.point ≡ point
 
--- After these rows comes that of this point, with what the store gains, and ends in this way.
+-- After these rows comes that of this point, with what the store gains, and has this outcome.
 pub record KeepsRow (app : Application) (limits : Limits) (view : View)
     (base : Run) (point : List Injection) (kept kept' : List KeptRow)
-    (old new : Store) (end : End) : Type 0 where
+    (old new : Store) (outcome : Outcome) : Type 0 where
   pub row : KeptRow
   pub rows_are : kept' ≡ kept ++ row ∷ []
-  pub ends : row.end ≡ end
+  pub reached : row.reached ≡ outcome.reached
+  pub ends : row.end ≡ outcome.end
   pub gains : GainsRow app limits view base point old new row
 
 -- ---- how rows go on

@@ -25,7 +25,7 @@ pub use file::{ServeFault, app_in};
 pub use gate::{Gate, NoGate};
 pub use making::{Finished, campaign};
 pub use named::point_named;
-pub use one_run::{serve_run, serve_run_of};
+pub use one_run::{row_of, serve_run, serve_run_of};
 pub use points::{ExpandFault, expand};
 pub use requests::{At, BadOption, NamedInjections, NamedPoint, Options};
 pub use rows::{Report, write_report, write_report_in_threads};

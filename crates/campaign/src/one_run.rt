@@ -11,7 +11,11 @@ use byte_io::{Sink, Source};
 use model::{App, End, Limits, Memory, Meter, Plan, Point, Run};
 use report::{Title, write_run};
 use requests::NamedPoint;
+use shelf::Shelf;
 use std::alloc::Global;
+
+/// So many steps are between two stops of a shelf from which one row is made.
+const FAR: u32 = 65_536;
 
 /// The base run: nothing is injected.
 pub(crate) fn base_run(alloc: Global, app: &App, limits: Limits) -> Result<Run, Memory>
@@ -21,18 +25,15 @@ pub(crate) fn base_run(alloc: Global, app: &App, limits: Limits) -> Result<Run, 
     kernel::run(alloc, app, &plan, limits, &mut Meter::new())
 }
 
-// Whether the point is reached, and its row. The base run comes first, and is the row if it ends
-// before the point's first injection.
-fn row_of(alloc: Global, app: &App, point: &Point) -> Result<(bool, Run), Memory>
+/// Whether a point is reached, and its row.
+///
+/// `Memory` is returned only if a growth was refused.
+pub fn row_of(alloc: Global, app: &App, point: &Point) -> Result<(bool, Run), Memory>
     ensures { IfOk result (λ row. IsRow app.now app.now.limits point.now row.0 row.1) }
 {
-    let base = base_run(alloc, app, app.limits())?;
-    if point.first_step() >= base.steps {
-        return Ok((false, base));
-    }
-    let plan = Plan::of(alloc, point)?;
-    let run = kernel::run(alloc, app, &plan, app.limits(), &mut Meter::new())?;
-    Ok((true, run))
+    let shelf = Shelf::make(alloc, app, app.limits(), FAR)?;
+    let row = shelf.run_point(alloc, app, *point, &mut Meter::new())?;
+    Ok((row.reached, row.run))
 }
 
 // The run that is asked for, and what its report is of.

@@ -1,8 +1,8 @@
 //! Running the rows of a worker, one after another.
-ghost use Rattle.std.specs.Prelude.{◌≡◌, ◌<◌, ◌≤◌, ◌+◌, ◌++◌, ◌∷◌, ◌^◌, [], length, take, if◌then◌else◌, Some, None, min, option_map, IfOk, IfSome, OnOk};
+ghost use Rattle.std.specs.Prelude.{◌≡◌, ◌<◌, ◌≤◌, ◌+◌, ◌++◌, ◌∷◌, ◌^◌, [], false, true, length, take, if◌then◌else◌, Some, None, min, option_map, IfOk, IfSome, OnOk};
 ghost use Rattle.std.specs.List.{AllByRecursion};
 ghost use Rattle.model.specs.Points.{first_step, last_step};
-ghost use Rattle.model.specs.Run.{end_of, state_after};
+ghost use Rattle.model.specs.Run.{end_of, is_reached, state_after};
 ghost use Rattle.machine.specs.Logged.{all_of};
 ghost use Rattle.machine.specs.Can.{IsUnderWay};
 ghost use Rattle.kernel.specs.Leads.{IsLed, IsPast};
@@ -346,16 +346,17 @@ impl Runner {
         Ok(rest)
     }
 
-    // The row of a point that the base run doesn't reach: it is the base run.
+    // The row of a point that isn't reached: it is the base run.
     fn missed(&self, app: &App, shelf: &Shelf, view: View, point: &Point) -> KeptRow
         requires shelf { IsShelf app.now shelf.now }
-        requires missed { shelf.now.base.steps ≤ first_step point.now }
+        requires missed { is_reached app.now shelf.now.limits point.now shelf.now.base.steps ≡ false }
         requires legs { AreLegs shelf.now.base.events (store_in self.now) }
         ensures { GainsRow app.now shelf.now.limits view shelf.now.base point.now (store_in self.now) (store_in self.now) result }
     {
         let base = shelf.base();
         KeptRow {
             point: *point,
+            reached: false,
             shared: shared_by(base, view),
             told: end_of_base(base),
             steps: base.steps,
@@ -422,21 +423,22 @@ impl Runner {
         self.put_marks(number, rest, last);
     }
 
-    // The row of a point that the base run reaches.
+    // The row of a point that is reached, and to whose first injection the walk has come.
     fn reached(
         &mut self,
         app: &App,
         shelf: &Shelf,
         view: View,
         point: &Point,
-        walk: &mut Walk,
+        walk: &Walk,
     ) -> Result<KeptRow, Memory>
         requires shelf { IsShelf app.now shelf.now }
-        requires walk { IsWalk app.now shelf.now.limits walk.old }
-        requires reached { first_step point.now < shelf.now.base.steps }
+        requires walk { IsWalk app.now shelf.now.limits walk.now }
+        requires there { walk.now.kernel.steps ≡ first_step point.now }
+        requires beyond { first_step point.now < shelf.now.base.steps }
+        requires reached { is_reached app.now shelf.now.limits point.now shelf.now.base.steps ≡ true }
         requires legs { AreLegs shelf.now.base.events (store_in self.old) }
         requires marks { AreMarked app.now shelf.now.limits view shelf.now.base (store_in self.old) self.old.table.marks.items }
-        ensures walk { OnOk result (IsWalk app.now shelf.now.limits walk.new) }
         ensures row { IfOk result (GainsRow app.now shelf.now.limits view shelf.now.base point.now
             (store_in self.old) (store_in self.new)) }
         ensures marks { OnOk result (AreMarked app.now shelf.now.limits view shelf.now.base (store_in self.new) self.new.table.marks.items) }
@@ -466,6 +468,7 @@ impl Runner {
             self.close_without_events(&rest, from, last);
             return Ok(KeptRow {
                 point: *point,
+                reached: true,
                 shared: 0,
                 told: end_of_base(base),
                 steps: rest.steps,
@@ -476,12 +479,41 @@ impl Runner {
         let told = self.close(&rest, from, last)?;
         Ok(KeptRow {
             point: *point,
+            reached: true,
             shared: begun.before,
             told,
             steps: rest.steps,
             ticks: rest.ticks,
             end: rest.end,
         })
+    }
+
+    // The row of a point to whose first injection the base run gets. The walk goes there.
+    fn beyond(
+        &mut self,
+        app: &App,
+        shelf: &Shelf,
+        view: View,
+        point: &Point,
+        walk: &mut Walk,
+    ) -> Result<KeptRow, Memory>
+        requires shelf { IsShelf app.now shelf.now }
+        requires walk { IsWalk app.now shelf.now.limits walk.old }
+        requires beyond { first_step point.now < shelf.now.base.steps }
+        requires legs { AreLegs shelf.now.base.events (store_in self.old) }
+        requires marks { AreMarked app.now shelf.now.limits view shelf.now.base (store_in self.old) self.old.table.marks.items }
+        ensures walk { OnOk result (IsWalk app.now shelf.now.limits walk.new) }
+        ensures row { IfOk result (GainsRow app.now shelf.now.limits view shelf.now.base point.now
+            (store_in self.old) (store_in self.new)) }
+        ensures marks { OnOk result (AreMarked app.now shelf.now.limits view shelf.now.base (store_in self.new) self.new.table.marks.items) }
+    {
+        let mut meter = Meter::new();
+        let comes = shelf.walk_to(app, point, walk, &mut meter, &mut self.log, &mut self.trail)?;
+        if comes {
+            self.reached(app, shelf, view, point, walk)
+        } else {
+            Ok(self.missed(app, shelf, view, point))
+        }
     }
 
     /// The row of a point, as far as the view shows it. If it shows events, the row's own go to the
@@ -504,8 +536,8 @@ impl Runner {
             (store_in self.old) (store_in self.new)) }
         ensures marks { OnOk result (AreMarked app.now shelf.now.limits view shelf.now.base (store_in self.new) self.new.table.marks.items) }
     {
-        if shelf.reaches(point) {
-            self.reached(app, shelf, view, point, walk)
+        if shelf.gets_to(point) {
+            self.beyond(app, shelf, view, point, walk)
         } else {
             Ok(self.missed(app, shelf, view, point))
         }

@@ -14,7 +14,7 @@ use crate::tallying::RowCounts;
 use deal::{Lane, Next, Tally, TallySeat};
 use model::{App, End, Memory, Point};
 use report::View;
-use rows::{KeptBlock, KeptRows, Part};
+use rows::{KeptBlock, KeptRow, KeptRows, Part};
 use shelf::{Shelf, Walk};
 use std::alloc::Global;
 use std::sync::Wait;
@@ -60,6 +60,25 @@ struct Worker {
     recent: Recent,
 }
 
+/// Whether the point of a row is reached, and how the row ends.
+#[derive(Clone, Copy)]
+pub(crate) struct Outcome {
+    pub(crate) reached: bool,
+    pub(crate) end: End,
+}
+
+impl Outcome {
+    // That of a row.
+    fn of(row: &KeptRow) -> Outcome
+        ensures { result ≡ record { reached = row.now.reached; end = row.now.end } }
+    {
+        Outcome {
+            reached: row.reached,
+            end: row.end,
+        }
+    }
+}
+
 // The number of the row that is kept of this point, if the one that was made last of it is found.
 fn again(kept: &KeptRows, recent: &Recent, point: &Point) -> Option<usize>
     ensures { IfSome result (IsAmong kept.now point.now) }
@@ -94,14 +113,14 @@ impl Worker {
     }
 
     // Keeps the row of a point: once more that of the same point before, if it is found, otherwise
-    // it is made. Returns how it ends.
+    // it is made. Returns its outcome.
     fn keep_row(
         &mut self,
         app: &App,
         shelf: &Shelf,
         view: View,
         point: &Point,
-    ) -> Result<End, Memory>
+    ) -> Result<Outcome, Memory>
         requires shelf { IsShelf app.now shelf.now }
         requires walk { IsWalk app.now shelf.now.limits self.old.walk }
         requires known { Knows app.now shelf.now.limits view shelf.now.base self.old.kept (store_in self.old.runner) self.old.runner.table.marks.items }
@@ -112,15 +131,15 @@ impl Worker {
         ensures marks { OnOk result (AreMarked app.now shelf.now.limits view shelf.now.base (store_in self.new.runner) self.new.runner.table.marks.items) }
     {
         if let Some(number) = again(&self.kept, &self.recent, point) {
-            let end = self.kept.at(number).end;
+            let outcome = Outcome::of(self.kept.at(number));
             self.kept.repeat(number)?;
-            return Ok(end);
+            return Ok(outcome);
         }
         let row = self.runner.run(app, shelf, view, point, &mut self.walk)?;
-        let end = row.end;
+        let outcome = Outcome::of(&row);
         self.recent.set(point, self.kept.len());
         self.kept.push(row)?;
-        Ok(end)
+        Ok(outcome)
     }
 
     // Makes the row of a point, and then counts it. At `Err(Memory)` the worker can't be used any
@@ -142,10 +161,8 @@ impl Worker {
             self.old.kept self.new.kept (store_in self.old.runner) (store_in self.new.runner)
             (counted setup.now.tally.now counts.old.kinds) (counted setup.now.tally.now counts.new.kinds)) }
     {
-        let shelf = setup.shelf;
-        let is_reached = shelf.reaches(point);
-        let end = self.keep_row(setup.app, shelf, *setup.view, point)?;
-        counts.count(is_reached, end);
+        let outcome = self.keep_row(setup.app, setup.shelf, *setup.view, point)?;
+        counts.count(outcome.reached, outcome.end);
         Ok(())
     }
 

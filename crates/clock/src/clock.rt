@@ -246,6 +246,7 @@ impl Clock {
     pub fn elapsed(&self) -> u64
         ensures elapsed { result ≡ self.now.age + self.now.held }
         ensures stands { (s : State) → StandsFor self.now s → result ≡ s.elapsed }
+        ensures countable { result ≤ 2 ^ 63 + 2 ^ 32 }
     {
         self.age + self.held.number
     }

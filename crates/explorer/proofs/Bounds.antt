@@ -1,14 +1,17 @@
 -- How many plans there are at most.
-use Rattle.std.proofs.Common.{◌≡◌, ◌≤◌, ◌+◌, ◌-◌, ◌*◌, ℕ, zero, suc, List, [], ◌∷◌, ◌++◌, length, map, Option, Some, None, refl, ap}
+use Rattle.std.proofs.Common.{◌≡◌, ◌≤◌, ◌+◌, ◌-◌, ◌*◌, ℕ, zero, suc, Bool, List, [], ◌∷◌, ◌++◌, length, map, Option, Some, None}
+use Rattle.std.proofs.Common.{refl, ap}
 use Rattle.std.proofs.Common.{sym, ◌∙◌, subst, arith, length-append}
 use Rattle.std.specs.Prelude.{Contains}
-use Rattle.std.specs.List.{AllByRecursion, flat_map}
+use Rattle.std.specs.List.{AllByRecursion, filter, flat_map}
 use Rattle.std.proofs.Math.Nat.{mul-le-mul_left}
 use Rattle.model.specs.declared.event.End.{End}
 use Rattle.model.specs.declared.plan.Injection.{Injection}
 use Rattle.model.specs.Application.{Application, Limits}
 use Rattle.model.specs.Run.{end_of, state_after}
-use Rattle.model.specs.Placements.{before_this, begun, choices, ended, extensions, placed_at, sequences, unless_ended}
+use Rattle.model.specs.Placements.{before_this, begun, can_all_come, choices, ended, extensions, placed_at, possible}
+use Rattle.model.specs.Placements.{sequences, unless_ended}
+use Rattle.model.proofs.Sorting.{by_test}
 use Rattle.model.proofs.Among.{all_if, all_weaker}
 use Rattle.model.proofs.Placements.{IsBegun, all_begun, choices_are, length_these, sequences_are}
 use Rattle.explorer.specs.Reordered.{IsReordered}
@@ -45,6 +48,12 @@ module _ {X : Type 0} (f : X → ℕ) where
       let one = h.0 in
       let rest = total_most g xs h.1 in
       omega (arith, one, rest)
+
+  pub total_filter : (p : X → Bool) (xs : List X) → total f (filter p xs) ≤ total f xs
+  total_filter p [] = omega arith
+  total_filter p (x ∷ xs) =
+      let rest = total_filter p xs in
+      by_test (p x) (λ t. rw t (omega arith)) (λ t. rw t (omega arith))
 
   pub total_times : (m : ℕ) (g : X → ℕ) (xs : List X) → AllByRecursion (λ x. g x ≡ m * f x) xs → total g xs ≡ m * total f xs
   total_times m g [] h = omega arith
@@ -162,7 +171,7 @@ module _ (app : Application) (limits : Limits) (handlers : List ℕ) (most : ℕ
   ways_of left plan = power (1 + length handlers * left) (most - length plan)
 
   one_plan : (n left : ℕ) (plan : List Injection) → IsBegun app limits handlers most n plan → (o : Option End)
-      → total (ways_of left) (unless_ended o (extensions handlers most n plan))
+      → total (ways_of left) (unless_ended o (extensions app limits handlers most n plan))
       + length (placed_at plan n (state_after app limits plan n) o) ≤ ways_of (suc left) plan
   one_plan n left plan h (Some end) = power_some (1 + length handlers * suc left) (most - length plan) (omega arith)
   one_plan n left plan h None =
@@ -176,17 +185,22 @@ module _ (app : Application) (limits : Limits) (handlers : List ℕ) (most : ℕ
       let number : most - length (plan ++ before_this n now) ≡ m - length now =
       omega (arith, length-append plan (before_this n now), length_these n now) in
       subst (λ (k : ℕ). power x (most - length (plan ++ before_this n now)) ≤ power x k) number (omega arith))) in
-      let sum : total (ways_of left) (extensions handlers most n plan) ≡ total (λ now. ways_of left (plan ++ before_this n now))
-      (choices handlers m) =
-      total_map (ways_of left) (λ now. plan ++ before_this n now) (choices handlers m) in
+      let all = possible app (state_after app limits plan n) (choices handlers m) in
+      let sum : total (ways_of left) (extensions app limits handlers most n plan)
+      ≡ total (λ now. ways_of left (plan ++ before_this n now)) all =
+      total_map (ways_of left) (λ now. plan ++ before_this n now) all in
+      let fewer : total (λ now. ways_of left (plan ++ before_this n now)) all
+      ≤ total (λ now. ways_of left (plan ++ before_this n now)) (choices handlers m) =
+      total_filter (λ now. ways_of left (plan ++ before_this n now))
+      (λ now. can_all_come app now (state_after app limits plan n)) (choices handlers m) in
       let bound = choices_most handlers x m in
       let base : power (x + length handlers) m ≤ power (1 + length handlers * suc left) m =
       power_most (x + length handlers) (1 + length handlers * suc left) m (omega arith) in
-      omega (arith, each, sum, bound, base)
+      omega (arith, each, sum, fewer, bound, base)
 
   some_plans : (n left : ℕ) (plans : List (List Injection)) → AllByRecursion (IsBegun app limits handlers most n) plans
       → total (ways_of left) (flat_map (λ plan. unless_ended (end_of app limits (state_after app limits plan n))
-      (extensions handlers most n plan)) plans)
+      (extensions app limits handlers most n plan)) plans)
       + length (flat_map (λ plan. placed_at plan n (state_after app limits plan n)
       (end_of app limits (state_after app limits plan n))) plans)
       ≤ total (ways_of (suc left)) plans
@@ -199,9 +213,9 @@ module _ (app : Application) (limits : Limits) (handlers : List ℕ) (most : ℕ
         one,
         rest,
         total-append (ways_of left) (unless_ended (end_of app limits (state_after app limits plan n))
-            (extensions handlers most n plan))
+            (extensions app limits handlers most n plan))
             (flat_map (λ plan. unless_ended (end_of app limits (state_after app limits plan n))
-            (extensions handlers most n plan)) plans),
+            (extensions app limits handlers most n plan)) plans),
         length-append (placed_at plan n (state_after app limits plan n) (end_of app limits (state_after app limits plan n)))
             (flat_map (λ plan. placed_at plan n (state_after app limits plan n)
             (end_of app limits (state_after app limits plan n))) plans),

@@ -137,6 +137,21 @@ module _ (app : Application) (limits : Limits) (handlers : List ℕ) (levels n u
   pub holds_same : (f : Frontier) (total others : List Placed) → others ≡ total → Has f total → Has f others
   holds_same f total others same h = holds_reordered f total others (if_same others total same) h
 
+  -- the same of a frontier with the same nodes
+  pub holds_alike : (f g : Frontier) (total : List Placed) → g.live.nodes.items ≡ f.live.nodes.items
+      → g.spent.nodes.items ≡ f.spent.nodes.items → g.findings.items ≡ f.findings.items → Has f total → Has g total
+  holds_alike f g total live spent found h = record {
+    plans = h.plans;
+    full = h.full;
+    all = h.all;
+    live = subst (λ (nodes : List Node). Carries app limits n nodes h.plans) (sym live) h.live;
+    few = h.few;
+    spent = subst (λ (nodes : List Node). Carries app limits until nodes h.full) (sym spent) h.spent;
+    none_left = h.none_left;
+    tally = subst (IsTally h.all) (sym found) h.tally;
+    same = h.same;
+  }
+
   pub number_most : (f : Frontier) (total : List Placed) → Has f total → number_in f ≤ length total
   number_most f total h =
       let live = count_carried app limits n f.live.nodes.items h.plans h.live in

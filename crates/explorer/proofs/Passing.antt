@@ -1,10 +1,10 @@
 -- The plans of a node, passed on to the next layer.
-use Rattle.std.proofs.Common.{◌≡◌, ◌<◌, ◌≤◌, ◌+◌, ◌-◌, ◌*◌, ℕ, zero, suc, false, List, [], ◌∷◌, ◌++◌, length, take, get_or}
+use Rattle.std.proofs.Common.{◌≡◌, ◌<◌, ◌≤◌, ◌+◌, ◌-◌, ◌*◌, ℕ, zero, suc, false, List, [], ◌∷◌, ◌++◌, length, take, drop, get_or}
 use Rattle.std.proofs.Common.{Option, Some, None, refl, ap, sym, ◌∙◌, subst, arith, append-nil, length-append}
 use Rattle.std.specs.Prelude.{Contains}
 use Rattle.std.specs.List.{AllByRecursion, flat_map}
 use Rattle.std.proofs.Math.Nat.{mul-le-mul_left}
-use Rattle.std.proofs.lemmas.List.{append_assoc}
+use Rattle.std.proofs.lemmas.List.{append_assoc, get_or-drop, length-drop, length-take}
 use Rattle.std.proofs.lemmas.List.Concat.{flat_map-append}
 use Rattle.model.specs.declared.event.End.{End}
 use Rattle.model.specs.declared.plan.Injection.{Injection}
@@ -25,50 +25,75 @@ use Rattle.explorer.specs.Layers.{AreAt, AreOf, GoesOn, HasWay, followed, nows_o
 use Rattle.explorer.specs.Tallies.{TalliesMore, ending_in}
 use Rattle.explorer.proofs.Choosing.{flat_more, read_level}
 use Rattle.explorer.proofs.Holding.{holds_reordered, holds_same, kept_found, kept_live, kept_spent, under_limit}
-use Rattle.explorer.proofs.Reorderings.{behind_all}
+use Rattle.explorer.proofs.Reorderings.{behind_all, flat_reordered, turned_round}
 use Rattle.explorer.proofs.Rests.{IsOver, all_going, all_over}
 
 -- ---- choice by choice
 
-module _ (app : Application) (limits : Limits) (levels until : ℕ) (node : Node) where
-  pub takes_none : (f : Frontier) → TakesBy app limits levels until node [] f f
+module _ (app : Application) (limits : Limits) (levels until : ℕ) (k : Machine) (count : ℕ)
+    (least : List Injection) where
+  pub takes_none : (f : Frontier) → TakesBy app limits levels until k count least [] f f
   takes_none f handlers n more total of h =
       holds_same app limits handlers levels (n + 1) until f total (total ++ []) (append-nil total) h
 
-  pub takes_then : (first then : List (List ℕ)) (a b c : Frontier) → TakesBy app limits levels until node first a b
-      → TakesBy app limits levels until node then b c → TakesBy app limits levels until node (first ++ then) a c
-  takes_then first then a b c g k handlers n more total of h =
+  pub takes_then : (first then : List (List ℕ)) (a b c : Frontier) → TakesBy app limits levels until k count least first a b
+      → TakesBy app limits levels until k count least then b c → TakesBy app limits levels until k count least (first ++ then) a c
+  takes_then first then a b c g e handlers n more total of h =
       let rests = rests_of app limits handlers levels (n + 1) in
-      let of_first = flat_map (followed n more) first in
-      let of_then = flat_map (followed n more) then in
+      let of_first = flat_map (followed app limits n more) first in
+      let of_then = flat_map (followed app limits n more) then in
       holds_same app limits handlers levels (n + 1) until c ((total ++ rests of_first) ++ rests of_then)
-      (total ++ rests (flat_map (followed n more) (first ++ then)))
-      (ap (λ (plans : Plans). total ++ rests plans) (flat_map-append (followed n more) first then)
+      (total ++ rests (flat_map (followed app limits n more) (first ++ then)))
+      (ap (λ (plans : Plans). total ++ rests plans) (flat_map-append (followed app limits n more) first then)
       ∙ ap (λ (ps : List Placed). total ++ ps) (flat_map-append _ of_first of_then)
       ∙ sym (append_assoc total (rests of_first) (rests of_then)))
-      (k handlers n more (total ++ rests of_first) of (g handlers n more total of h))
+      (e handlers n more (total ++ rests of_first) of (g handlers n more total of h))
 
-  pub takes_as : (nows others : List (List ℕ)) (a b : Frontier) → nows ≡ others → TakesBy app limits levels until node nows a b
-      → TakesBy app limits levels until node others a b
-  takes_as nows others a b e g = subst (λ (ns : List (List ℕ)). TakesBy app limits levels until node ns a b) e g
+  pub takes_as : (nows others : List (List ℕ)) (a b : Frontier) → nows ≡ others
+      → TakesBy app limits levels until k count least nows a b
+      → TakesBy app limits levels until k count least others a b
+  takes_as nows others a b e g = subst (λ (ns : List (List ℕ)). TakesBy app limits levels until k count least ns a b) e g
+
+  -- in the other order
+  pub takes_turned : (first then : List (List ℕ)) (a b : Frontier)
+      → TakesBy app limits levels until k count least (first ++ then) a b
+      → TakesBy app limits levels until k count least (then ++ first) a b
+  takes_turned first then a b g handlers n more total of h =
+      let rests = λ (nows : List (List ℕ)).
+      rests_of app limits handlers levels (n + 1) (flat_map (followed app limits n more) nows) in
+      holds_reordered app limits handlers levels (n + 1) until b (total ++ rests (first ++ then)) (total ++ rests (then ++ first))
+      (behind_all total (rests (then ++ first)) (rests (first ++ then))
+      (flat_reordered _ (flat_map (followed app limits n more) (then ++ first))
+      (flat_map (followed app limits n more) (first ++ then))
+      (flat_reordered (followed app limits n more) (then ++ first) (first ++ then) (turned_round then first))))
+      (g handlers n more total of h)
 
   -- what comes of a kernel after one of them
-  pub takes_next : (next : Machine) (least : List Injection) (now : List ℕ) (old new : Frontier)
-      → Takes app limits levels until next node.count least old new
-      → ((n : ℕ) (more : Plans) → AreOf app limits n node more → AreAt app limits (n + 1) next node.count least
-      (followed n more now))
-      → TakesBy app limits levels until node (now ∷ []) old new
-  takes_next next least now old new takes stepped handlers n more total of h =
-      let plans = followed n more now in
+  pub takes_next : (next : Machine) (longer : List Injection) (now : List ℕ) (old new : Frontier)
+      → Takes app limits levels until next count longer old new
+      → ((n : ℕ) (more : Plans) → AreAt app limits n k count least more → AreAt app limits (n + 1) next count longer
+      (followed app limits n more now))
+      → TakesBy app limits levels until k count least (now ∷ []) old new
+  takes_next next longer now old new takes stepped handlers n more total of h =
+      let plans = followed app limits n more now in
       let at = stepped n more of in
-      let on : AreAt app limits (n + 1) next node.count least plans → Holds app limits handlers levels (n + 1) until old total
+      let on : AreAt app limits (n + 1) next count longer plans → Holds app limits handlers levels (n + 1) until old total
       → Holds app limits handlers levels (n + 1) until new (total ++ rests_of app limits handlers levels (n + 1) plans) =
-      subst (λ (m : ℕ). AreAt app limits m next node.count least plans → Holds app limits handlers levels m until old total
+      subst (λ (m : ℕ). AreAt app limits m next count longer plans → Holds app limits handlers levels m until old total
       → Holds app limits handlers levels m until new (total ++ rests_of app limits handlers levels m plans)) at.here
       (takes handlers plans total) in
       holds_same app limits handlers levels (n + 1) until new (total ++ rests_of app limits handlers levels (n + 1) plans)
       (total ++ rests_of app limits handlers levels (n + 1) (plans ++ []))
       (ap (λ (ps : Plans). total ++ rests_of app limits handlers levels (n + 1) ps) (append-nil plans)) (on at h)
+
+  -- nothing comes of it if they can't come
+  pub takes_missed : (now : List ℕ) (f : Frontier)
+      → ((n : ℕ) (more : Plans) → AreAt app limits n k count least more → followed app limits n more now ≡ [])
+      → TakesBy app limits levels until k count least (now ∷ []) f f
+  takes_missed now f none handlers n more total of h =
+      let rests = rests_of app limits handlers levels (n + 1) in
+      holds_same app limits handlers levels (n + 1) until f total (total ++ rests (followed app limits n more now ++ []))
+      (ap (λ (ps : Plans). total ++ rests (ps ++ [])) (none n more of) ∙ append-nil total) h
 
 -- those with injections left, and those without
 
@@ -127,6 +152,19 @@ flat_few (x ∷ levels) (suc i) d l =
     let rest = flat_few levels i d (omega (arith, l)) in
     omega (arith, length-append x (flat levels), length-append x (flat (take i levels)), rest)
 
+-- with the next of them
+pub level_on : (levels : List (List (List ℕ))) (i : ℕ) (level : List (List ℕ)) → i < length levels
+    → flat (take (i + 1) levels) ≡ flat (take i levels) ++ get_or levels i level
+level_on levels i level within = flat_more (λ ls. ls) levels i level within
+
+pub level_fits : (levels : List (List (List ℕ))) (i : ℕ) (level : List (List ℕ)) → i < length levels
+    → (now base count most : ℕ) → now ≤ base + length (flat (take i levels)) * count
+    → base + length (flat levels) * count < most → now + length (get_or levels i level) * count < most
+level_fits levels i level within now base count most e room =
+    let sum = room_of (length (flat (take i levels))) (length (get_or levels i level)) (length (flat levels)) count base most
+    (flat_few levels i level within) room in
+    omega (arith, sum, e)
+
 -- The kernel's run goes on where it isn't at its end.
 pub goes_if : (app : Application) (limits : Limits) (k : Machine) (least : List Injection) → HasWay app limits k least →
     (o : Option End)
@@ -151,10 +189,10 @@ module _ (app : Application) (limits : Limits) (handlers : List ℕ) (levels unt
       (ends (state_after app limits plan node.kernel.value.steps) way.stands))) more of.way
 
   pub passes_going : o ≡ None → (old new : Frontier)
-      → TakesBy app limits levels until node (nows_of handlers levels node.least) old new
+      → TakesBy app limits levels until node.kernel.value node.count node.least (nows_of handlers levels node.least) old new
       → Passes app limits handlers levels until node old new
   passes_going none old new takes n more total of h =
-      let onward = flat_map (followed n more) (nows_of handlers levels node.least) in
+      let onward = flat_map (followed app limits n more) (nows_of handlers levels node.least) in
       holds_reordered app limits handlers levels (n + 1) until new (total ++ rests_of app limits handlers levels (n + 1) onward)
       (total ++ rests_of app limits handlers levels n more)
       (behind_all total (rests_of app limits handlers levels n more) (rests_of app limits handlers levels (n + 1) onward)
@@ -245,17 +283,57 @@ module _ (handlers : List ℕ) (levels : List (List (List ℕ))) (are : AreLevel
         (all_weaker (λ now. (length now ≡ i) × AllByRecursion (Contains handlers) now) (λ now. length least + length now ≤ 3)
         (λ now long. let e = long.0 in omega (arith, e, less, few, left)) (sequences handlers i) (sequences_are handlers i))
 
-    pub level_room : (now base count most : ℕ) → now ≡ base + length (flat (take i part)) * count
-        → base + length (nows_of handlers (length levels) least) * count < most → now + length level * count < most
-    level_room now base count most e room =
-        let all : length (flat part) ≡ length (nows_of handlers (length levels) least) = ap length part_flat in
-        let here : length (get_or part i level) ≡ length level = ap length (sym level_is) in
-        let fit = flat_few part i level within in
-        let fits : length (flat (take i part)) + length level ≤ length (nows_of handlers (length levels) least) =
-        omega (arith, fit, here, all) in
-        let sum = room_of (length (flat (take i part))) (length level)
-        (length (nows_of handlers (length levels) least)) count base most fits room in
-        subst (λ (m : ℕ). m + length level * count < most) (sym e) sum
+  first_of : (ls : List (List (List ℕ))) → 0 < length ls → get_or ls 0 [] ≡ sequences handlers 0
+      → ls ≡ sequences handlers 0 ∷ drop 1 ls
+  first_of [] l e = absurd (omega (arith, l))
+  first_of (x ∷ ls) l e = ap (λ (y : List (List ℕ)). y ∷ ls) e
 
-    pub flat_on : flat (take (i + 1) part) ≡ flat (take i part) ++ level
-    flat_on = flat_more (λ ls. ls) part i level within ∙ ap (λ (ls : List (List ℕ)). flat (take i part) ++ ls) (sym level_is)
+  begins : part ≡ sequences handlers 0 ∷ drop 1 part
+  begins =
+      let count = length levels - length least in
+      let some : 0 < length (take count levels) = omega (arith, left, length-take count levels) in
+      let place = taken levels count 0 some in
+      first_of part (subst (λ (ls : List (List (List ℕ))). 0 < length ls) (sym is) some)
+      (ap (λ (ls : List (List (List ℕ))). get_or ls 0 []) is ∙ place.0 ∙ are 0 place.1)
+
+  -- That no handler comes, and then all others.
+  pub first_flat : ([] ∷ []) ++ flat (drop 1 part) ≡ nows_of handlers (length levels) least
+  first_flat = ap flat (sym begins) ∙ part_flat
+
+  all_few : (n : ℕ) (ls : List (List (List ℕ)))
+      → ((i : ℕ) (level : List (List ℕ)) → i < length ls → level ≡ get_or ls i level → level ≡ get_or part (n + i) level
+      × (n + i < length part))
+      → AllByRecursion (λ level. AllByRecursion (λ now. length least + length now ≤ 3) level) ls
+  all_few n [] at = tt
+  all_few n (x ∷ ls) at =
+      let first = at 0 x (omega arith) refl in
+      let here : n + 0 ≡ n = omega arith in (
+        level_few (n + 0) x first.1 first.0,
+        all_few (n + 1) ls (λ i level l e.
+            let next = at (suc i) level (omega (arith, l)) e in
+            let same : n + suc i ≡ n + 1 + i = omega arith in
+            let less = next.1 in
+            (next.0 ∙ ap (λ (m : ℕ). get_or part m level) same, omega (arith, less))),
+      )
+
+  pub others_few : AllByRecursion (λ level. AllByRecursion (λ now. length least + length now ≤ 3) level) (drop 1 part)
+  others_few = all_few 1 (drop 1 part) (λ i level l e. (e ∙ get_or-drop 1 part i level, omega (arith, l, length-drop 1 part)))
+
+  -- how many fit after them, and how many of them
+  pub first_room : (now base count most : ℕ) → now ≤ base + length (flat (drop 1 part)) * count
+      → base + length (nows_of handlers (length levels) least) * count < most → now + count < most
+  first_room now base count most e room =
+      let long = ap length first_flat in
+      let all : 1 + length (flat (drop 1 part)) ≡ length (nows_of handlers (length levels) least) = omega (arith, long) in
+      let sum = room_of (length (flat (drop 1 part))) 1 (length (nows_of handlers (length levels) least)) count base most
+      (omega (arith, all)) room in
+      omega (arith, sum, e)
+
+  pub others_room : (base count most : ℕ) → base + length (nows_of handlers (length levels) least) * count < most
+      → base + length (flat (drop 1 part)) * count < most
+  others_room base count most room =
+      let long = ap length first_flat in
+      let all : 1 + length (flat (drop 1 part)) ≡ length (nows_of handlers (length levels) least) = omega (arith, long) in
+      let sum = room_of (length (flat (drop 1 part))) 0 (length (nows_of handlers (length levels) least)) count base most
+      (omega (arith, all)) room in
+      omega (arith, sum)

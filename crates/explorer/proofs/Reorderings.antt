@@ -1,7 +1,9 @@
 -- What doesn't depend on the order of a list.
-use Rattle.std.proofs.Common.{◌≡◌, ◌≢◌, List, [], ◌∷◌, ◌++◌, length, map, refl, sym, ◌∙◌, subst, arith, append-nil}
-use Rattle.std.specs.Prelude.{Contains}
-use Rattle.std.specs.List.{AllByRecursion, flat_map}
+use Rattle.std.proofs.Common.{◌≡◌, ◌≢◌, List, [], ◌∷◌, ◌++◌, Bool, ap₂, length, map, refl, sym, ◌∙◌, subst, arith}
+use Rattle.std.proofs.Common.{append-nil}
+use Rattle.std.specs.Prelude.{Contains, if◌then◌else◌}
+use Rattle.std.specs.List.{AllByRecursion, filter, flat_map}
+use Rattle.model.proofs.Sorting.{by_test}
 use Rattle.model.specs.Placements.{AreDistinct}
 use Rattle.model.proofs.Among.{all_among, all_if}
 use Rattle.explorer.specs.Reordered.{IsReordered}
@@ -86,6 +88,22 @@ module _ {X Y : Type 0} where
       Kept (f x) (Then (past (map f xs) (g x) (flat_map g xs))
       (behind_all (g x) (map f xs ++ flat_map g xs) (flat_map (λ y. f y ∷ g y) xs) (firsts f g xs)))
 
+  -- the same, but of the first of each only those that pass
+  firsts_if : (p : X → Bool) (f : X → Y) (g : X → List Y) (xs : List X)
+      → IsReordered (map f (filter p xs) ++ flat_map g xs) (flat_map (λ x. if p x then f x ∷ g x else g x) xs)
+  firsts_if p f g [] = Nothing
+  firsts_if p f g (x ∷ xs) =
+      let rest : IsReordered (map f (filter p xs) ++ (g x ++ flat_map g xs))
+      (g x ++ flat_map (λ y. if p y then f y ∷ g y else g y) xs) =
+      Then (past (map f (filter p xs)) (g x) (flat_map g xs))
+      (behind_all (g x) (map f (filter p xs) ++ flat_map g xs) (flat_map (λ y. if p y then f y ∷ g y else g y) xs)
+      (firsts_if p f g xs)) in
+      by_test (p x) (λ t. rw t (Kept (f x) rest)) (λ t. rw t rest)
+
+  flat_same : (g h : X → List Y) (xs : List X) → ((x : X) → g x ≡ h x) → flat_map g xs ≡ flat_map h xs
+  flat_same g h [] same = refl
+  flat_same g h (x ∷ xs) same = ap₂ (λ (ys zs : List Y). ys ++ zs) (same x) (flat_same g h xs same)
+
   flat_none : (xs : List X) → flat_map (λ (x : X). let none : List Y = [] in none) xs ≡ []
   flat_none [] = refl
   flat_none (x ∷ xs) = flat_none xs
@@ -98,3 +116,19 @@ by_columns f (x ∷ xs) ys =
     Then (behind_all (map (λ y. f x y) ys) (flat_map (λ z. map (λ y. f z y) ys) xs) (flat_map (λ y. map (λ z. f z y) xs) ys)
     (by_columns f xs ys))
     (firsts (λ y. f x y) (λ y. map (λ z. f z y) xs) ys)
+
+-- The same of the places that pass.
+pub by_columns_if : {X Y Z : Type 0} (can : X → Y → Bool) (f : X → Y → Z) (xs : List X) (ys : List Y)
+    → IsReordered (flat_map (λ x. map (λ y. f x y) (filter (λ y. can x y) ys)) xs)
+    (flat_map (λ y. map (λ x. f x y) (filter (λ x. can x y) xs)) ys)
+by_columns_if {Z = Z} can f [] ys = if_same [] (flat_map (λ y. map (λ x. f x y) []) ys) (sym (flat_none ys))
+by_columns_if {X} {Y} {Z} can f (x ∷ xs) ys =
+    let row : X → List Z = λ z. map (λ y. f z y) (filter (λ y. can z y) ys) in
+    let column : Y → List Z = λ y. map (λ z. f z y) (filter (λ z. can z y) xs) in
+    Then (behind_all (row x) (flat_map row xs) (flat_map column ys) (by_columns_if can f xs ys))
+    (Then (firsts_if (λ y. can x y) (λ y. f x y) column ys)
+    (if_same (flat_map (λ y. if can x y then f x y ∷ column y else column y) ys)
+    (flat_map (λ y. map (λ z. f z y) (filter (λ z. can z y) (x ∷ xs))) ys)
+    (flat_same (λ y. if can x y then f x y ∷ column y else column y)
+    (λ y. map (λ z. f z y) (filter (λ z. can z y) (x ∷ xs))) ys
+    (λ y. by_test (can x y) (λ t. rw t refl) (λ t. rw t refl)))))

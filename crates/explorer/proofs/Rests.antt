@@ -1,24 +1,30 @@
 -- The placements to which plans go on.
-use Rattle.std.proofs.Common.{◌≡◌, ◌<◌, ◌≤◌, ◌+◌, ◌-◌, ◌⊎◌, ℕ, zero, suc, List, [], ◌∷◌, ◌++◌, length, map, Option, Some, None}
+use Rattle.std.proofs.Common.{◌≡◌, ◌<◌, ◌≤◌, ◌+◌, ◌-◌, ◌⊎◌, ℕ, zero, suc, Bool, true, List, [], ◌∷◌, ◌++◌, length, map, Option}
+use Rattle.std.proofs.Common.{Some, None}
 use Rattle.std.proofs.Common.{refl, ap}
 use Rattle.std.proofs.Common.{sym, ◌∙◌, arith, append-nil, length-append, inl, inr}
 use Rattle.std.specs.Prelude.{Contains}
-use Rattle.std.specs.List.{AllByRecursion, flat_map}
+use Rattle.std.specs.List.{AllByRecursion, filter, flat_map}
 use Rattle.std.proofs.lemmas.List.{append_assoc}
 use Rattle.std.proofs.lemmas.List.Concat.{flat_map-append}
 use Rattle.model.specs.declared.event.End.{End}
 use Rattle.model.specs.declared.plan.Injection.{Injection}
 use Rattle.model.specs.Application.{Application, Limits}
 use Rattle.model.specs.Run.{end_of, state_after}
-use Rattle.model.specs.Placements.{Placed, before_this, begun, choices, ended, extensions, placed_at, unless_ended}
-use Rattle.model.proofs.Among.{among_map, first_or_later, none_is}
+use Rattle.model.specs.Placements.{Placed, before_this, begun, can_all_come, choices, ended, extensions, placed_at}
+use Rattle.model.specs.Placements.{possible, unless_ended}
+use Rattle.model.specs.State.{State}
+use Rattle.model.specs.Switching.{is_critical}
+use Rattle.model.proofs.Sorting.{by_test}
+use Rattle.model.proofs.Among.{among_filter, among_map, first_or_later, none_is}
 use Rattle.model.proofs.Placements.{choices_have}
 use Rattle.kernel.proofs.Running.{steps_under}
 use Rattle.explorer.specs.Frontiers.{Plans, everything, placed_from, rests_of}
+use Rattle.explorer.specs.Layers.{followed}
 use Rattle.explorer.specs.Reordered.{IsReordered}
 use Rattle.explorer.specs.Reordered.IsReordered.{Then}
 use Rattle.explorer.specs.Tallies.{ending_in}
-use Rattle.explorer.proofs.Reorderings.{behind_all, by_columns, flat_reordered, if_same, past}
+use Rattle.explorer.proofs.Reorderings.{behind_all, by_columns_if, flat_reordered, if_same, past}
 
 flat_least : {X Y : Type 0} (g : X → List Y) (xs : List X) (x : X) → Contains xs x → length (g x) ≤ length (flat_map g xs)
 flat_least g [] x h = none_is x h
@@ -49,6 +55,13 @@ flat_both f g h (x ∷ xs) =
     (behind_all (f x ++ flat_map h (g x)) (firsts ++ lasts) (flat_map (λ y. f y ++ flat_map h (g y)) xs)
     (flat_both f g h xs))))
 
+-- That no handler comes can always be.
+none_can : (app : Application) (s : State) → can_all_come app [] s ≡ true
+none_can app s = by_test (is_critical s) (λ t. rw t refl) (λ t. rw t refl)
+
+none_possible : (app : Application) (s : State) → possible app s ([] ∷ []) ≡ [] ∷ []
+none_possible app s = rw (none_can app s) refl
+
 module _ (app : Application) (limits : Limits) (handlers : List ℕ) (most : ℕ) where
   abbrev from : ℕ → ℕ → List Injection → List Placed
   from fuel n plan = placed_from app limits handlers most fuel n plan
@@ -59,24 +72,28 @@ module _ (app : Application) (limits : Limits) (handlers : List ℕ) (most : ℕ
   -- ---- with so many steps at most
 
   from_going : (fuel n : ℕ) (plan : List Injection) → end_at plan n ≡ None
-      → from (suc fuel) n plan ≡ flat_map (from fuel (suc n)) (extensions handlers most n plan)
+      → from (suc fuel) n plan ≡ flat_map (from fuel (suc n)) (extensions app limits handlers most n plan)
   from_going fuel n plan none =
       ap (λ (o : Option End). placed_at plan n (state_after app limits plan n) o
-      ++ flat_map (from fuel (suc n)) (unless_ended o (extensions handlers most n plan))) none
+      ++ flat_map (from fuel (suc n)) (unless_ended o (extensions app limits handlers most n plan))) none
 
   from_ended : (fuel n : ℕ) (plan : List Injection) (end : End) → end_at plan n ≡ Some end
       → from (suc fuel) n plan
       ≡ record { injections = plan; steps = n; ticks = (state_after app limits plan n).elapsed; end = end } ∷ []
   from_ended fuel n plan end some =
       ap (λ (o : Option End). placed_at plan n (state_after app limits plan n) o
-      ++ flat_map (from fuel (suc n)) (unless_ended o (extensions handlers most n plan))) some
+      ++ flat_map (from fuel (suc n)) (unless_ended o (extensions app limits handlers most n plan))) some
 
   from_full : (fuel n : ℕ) (plan : List Injection) → most ≤ length plan → end_at plan n ≡ None
       → from (suc fuel) n plan ≡ from fuel (suc n) plan
   from_full fuel n plan full none =
       let left : most - length plan ≡ 0 = omega (arith, full) in
+      let s : State = state_after app limits plan n in
       from_going fuel n plan none
-      ∙ ap (λ (k : ℕ). flat_map (from fuel (suc n)) (map (λ (now : List ℕ). plan ++ before_this n now) (choices handlers k))) left
+      ∙ ap (λ (k : ℕ). flat_map (from fuel (suc n)) (map (λ (now : List ℕ). plan ++ before_this n now)
+      (possible app s (choices handlers k)))) left
+      ∙ ap (λ (nows : List (List ℕ)). flat_map (from fuel (suc n)) (map (λ (now : List ℕ). plan ++ before_this n now) nows))
+      (none_possible app s)
       ∙ append-nil (from fuel (suc n) (plan ++ []))
       ∙ ap (λ (p : List Injection). from fuel (suc n) p) (append-nil plan)
 
@@ -109,11 +126,15 @@ module _ (app : Application) (limits : Limits) (handlers : List ℕ) (most : ℕ
             let under = steps_under app plan limits n is in
             let none : List ℕ = [] in
             let rest = later (omega (arith, sum, under)) in
-            let among : Contains (extensions handlers most n plan) (plan ++ before_this n none) =
-            among_map (λ (now : List ℕ). plan ++ before_this n now) (choices handlers (most - length plan)) none
-            (choices_have handlers none (most - length plan) tt (omega arith)) in
-            let least = flat_least (from fuel (suc n)) (extensions handlers most n plan) (plan ++ before_this n none) among in
-            let number : length (from (suc fuel) n plan) ≡ length (flat_map (from fuel (suc n)) (extensions handlers most n plan)) =
+            let among : Contains (extensions app limits handlers most n plan) (plan ++ before_this n none) =
+            among_map (λ (now : List ℕ). plan ++ before_this n now)
+            (possible app (state_after app limits plan n) (choices handlers (most - length plan))) none
+            (among_filter (λ now. can_all_come app now (state_after app limits plan n)) (choices handlers (most - length plan)) none
+            (choices_have handlers none (most - length plan) tt (omega arith)) (none_can app (state_after app limits plan n))) in
+            let least = flat_least (from fuel (suc n)) (extensions app limits handlers most n plan)
+            (plan ++ before_this n none) among in
+            let number : length (from (suc fuel) n plan) ≡ length (flat_map (from fuel (suc n))
+            (extensions app limits handlers most n plan)) =
             ap (λ (ps : List Placed). length ps) (from_going fuel n plan is) in
             omega (arith, rest, least, number)
 
@@ -135,7 +156,7 @@ module _ (app : Application) (limits : Limits) (handlers : List ℕ) (most : ℕ
       let plans = begun app limits handlers most n in
       let number : suc fuel + n ≡ fuel + suc n = omega arith in
       let here = λ (plan : List Injection). placed_at plan n (state_after app limits plan n) (end_at plan n) in
-      let on = λ (plan : List Injection). unless_ended (end_at plan n) (extensions handlers most n plan) in
+      let on = λ (plan : List Injection). unless_ended (end_at plan n) (extensions app limits handlers most n plan) in
       Then (if_same (ended app limits handlers most (suc fuel + n)) (ended app limits handlers most (fuel + suc n))
       (ap (λ (m : ℕ). ended app limits handlers most m) number))
       (Then (ended_from fuel (suc n))
@@ -156,13 +177,13 @@ module _ (app : Application) (limits : Limits) (handlers : List ℕ) (most : ℕ
   at_most plan (suc n) goes = let under = steps_under app plan limits n (goes n (omega arith)) in omega (arith, under)
 
   rest_going : (n : ℕ) (plan : List Injection) → end_at plan n ≡ None
-      → rest n plan ≡ flat_map (rest (n + 1)) (extensions handlers most n plan)
+      → rest n plan ≡ flat_map (rest (n + 1)) (extensions app limits handlers most n plan)
   rest_going n plan none =
       let under = steps_under app plan limits n none in
       let number : limits.steps + 1 - n ≡ suc (limits.steps + 1 - (n + 1)) = omega (arith, under) in
       let next : suc n ≡ n + 1 = omega arith in
       ap (λ (k : ℕ). from k n plan) number ∙ from_going (limits.steps + 1 - (n + 1)) n plan none
-      ∙ ap (λ (m : ℕ). flat_map (from (limits.steps + 1 - (n + 1)) m) (extensions handlers most n plan)) next
+      ∙ ap (λ (m : ℕ). flat_map (from (limits.steps + 1 - (n + 1)) m) (extensions app limits handlers most n plan)) next
 
   rest_ended : (n : ℕ) (plan : List Injection) (end : End) → n ≤ limits.steps → end_at plan n ≡ Some end
       → rest n plan ≡ record { injections = plan; steps = n; ticks = (state_after app limits plan n).elapsed; end = end } ∷ []
@@ -201,34 +222,36 @@ module _ (app : Application) (limits : Limits) (handlers : List ℕ) (levels : �
   rests_reordered n ps qs h =
       flat_reordered (placed_from app limits handlers (levels - 1) (limits.steps + 1 - n) n) ps qs h
 
-  -- They go on with each choice.
+  -- They go on with each choice that can come there.
   pub all_going : (n long : ℕ) (plans : Plans) → AllByRecursion (λ plan. end_of app limits (state_after app limits plan n) ≡ None)
       plans
       → AllByRecursion (λ plan. length plan ≡ long) plans
       → IsReordered (rests n plans)
-      (rests (n + 1) (flat_map (λ (now : List ℕ). map (λ (plan : List Injection). plan ++ before_this n now) plans)
-      (choices handlers (levels - 1 - long))))
+      (rests (n + 1) (flat_map (followed app limits n plans) (choices handlers (levels - 1 - long))))
   all_going n long plans going as_long =
       let f = placed_from app limits handlers (levels - 1) (limits.steps + 1 - (n + 1)) (n + 1) in
       let nows = choices handlers (levels - 1 - long) in
-      let rows = flat_map (λ (plan : List Injection). map (λ (now : List ℕ). plan ++ before_this n now) nows) plans in
-      let columns = flat_map (λ (now : List ℕ). map (λ (plan : List Injection). plan ++ before_this n now) plans) nows in
-      Then (if_same (rests n plans) (flat_map f rows) (by_rows plans going as_long))
-      (flat_reordered f rows columns (by_columns (λ (plan : List Injection) (now : List ℕ). plan ++ before_this n now) plans nows))
+      Then (if_same (rests n plans) (flat_map f (flat_map (λ plan. row plan nows) plans)) (by_rows plans going as_long))
+      (flat_reordered f (flat_map (λ plan. row plan nows) plans) (flat_map (followed app limits n plans) nows)
+      (by_columns_if can (λ (plan : List Injection) (now : List ℕ). plan ++ before_this n now) plans nows))
     where
+      can : List Injection → List ℕ → Bool
+      can plan now = can_all_come app now (state_after app limits plan n)
+
+      row : List Injection → List (List ℕ) → Plans
+      row plan nows = map (λ (now : List ℕ). plan ++ before_this n now) (filter (λ now. can plan now) nows)
+
       by_rows : (ps : Plans) → AllByRecursion (λ plan. end_of app limits (state_after app limits plan n) ≡ None) ps
           → AllByRecursion (λ plan. length plan ≡ long) ps
-          → rests n ps ≡ rests (n + 1) (flat_map (λ (plan : List Injection). map (λ (now : List ℕ). plan ++ before_this n now)
-          (choices handlers (levels - 1 - long))) ps)
+          → rests n ps ≡ rests (n + 1) (flat_map (λ plan. row plan (choices handlers (levels - 1 - long))) ps)
       by_rows [] going as_long = refl
       by_rows (plan ∷ ps) going as_long =
           let f = placed_from app limits handlers (levels - 1) (limits.steps + 1 - (n + 1)) (n + 1) in
-          let of = λ (l : ℕ). map (λ (now : List ℕ). plan ++ before_this n now) (choices handlers (levels - 1 - l)) in
+          let of = λ (l : ℕ). row plan (choices handlers (levels - 1 - l)) in
           ap (λ (qs : List Placed). qs ++ rests n ps) (rest_going app limits handlers (levels - 1) n plan going.0)
           ∙ ap (λ (l : ℕ). flat_map f (of l) ++ rests n ps) as_long.0
           ∙ ap (λ (qs : List Placed). flat_map f (of long) ++ qs) (by_rows ps going.1 as_long.1)
-          ∙ sym (flat_map-append f (of long) (flat_map (λ (p : List Injection). map (λ (now : List ℕ). p ++ before_this n now)
-          (choices handlers (levels - 1 - long))) ps))
+          ∙ sym (flat_map-append f (of long) (flat_map (λ p. row p (choices handlers (levels - 1 - long))) ps))
 
   -- They have ended.
   pub all_over : (n : ℕ) (p : Placed) → p.steps ≡ n → (plans : Plans) → AllByRecursion (IsOver app limits n p) plans

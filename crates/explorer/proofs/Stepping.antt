@@ -1,14 +1,15 @@
 -- Plans that go on from a kernel with handlers before the step.
-use Rattle.std.proofs.Common.{◌≡◌, ◌<◌, ◌+◌, ℕ, false, List, ◌++◌, length, ap, sym, ◌∙◌, subst, arith, length-append}
-use Rattle.std.specs.List.{AllByRecursion}
+use Rattle.std.proofs.Common.{◌≡◌, ◌<◌, ◌+◌, ℕ, Bool, true, false, List, [], ◌∷◌, ◌++◌, refl, length, ap, sym, ◌∙◌, subst, arith}
+use Rattle.std.proofs.Common.{length-append}
+use Rattle.std.specs.List.{AllByRecursion, filter}
 use Rattle.std.proofs.lemmas.List.{length-map}
 use Rattle.model.specs.declared.plan.Injection.{Injection}
 use Rattle.model.specs.Application.{Application, Limits}
 use Rattle.model.specs.Scripts.{AreLimits, IsWellFormed}
 use Rattle.model.specs.State.{State}
 use Rattle.model.specs.Step.{step}
-use Rattle.model.specs.Run.{end_of, injected}
-use Rattle.model.specs.Placements.{before_this, is_less}
+use Rattle.model.specs.Run.{end_of, injected, state_after}
+use Rattle.model.specs.Placements.{before_this, can_all_come, is_less}
 use Rattle.model.proofs.Among.{all_among, all_append, all_if, all_map, all_of_both, all_weaker, among_map}
 use Rattle.model.proofs.Placements.{extended_at, extended_before, same_before}
 use Rattle.machine.specs.declared.machine.Machine.{Machine}
@@ -16,7 +17,7 @@ use Rattle.machine.specs.StandsFor.{Stands}
 use Rattle.machine.specs.Can.{IsUnderWay}
 use Rattle.kernel.specs.Can.{CanStep}
 use Rattle.kernel.proofs.Running.{can_step, goes_on, steps_more}
-use Rattle.explorer.specs.Layers.{AreAt, GoesOn, HasWay, followed}
+use Rattle.explorer.specs.Layers.{AreAt, GoesOn, HasWay, each_followed, followed}
 use Rattle.explorer.proofs.Ordering.{less-append}
 
 module _ (app : Application) (formed : IsWellFormed app) (limits : Limits) (are : AreLimits limits.ticks limits.steps)
@@ -81,7 +82,7 @@ module _ (app : Application) (formed : IsWellFormed app) (limits : Limits) (are 
       }
 
       pub stepped : (count : ℕ) (least : List Injection) (plans : List (List Injection)) → AreAt app limits n k count least plans
-          → AreAt app limits (n + 1) next count (least ++ before_this n now) (followed n plans now)
+          → AreAt app limits (n + 1) next count (least ++ before_this n now) (each_followed n plans now)
       stepped count least plans h =
           let below = all_among (λ plan. AllByRecursion (λ (i : Injection). i.step < n) plan) plans least h.below h.among in
           let way = way_with least (all_among (λ plan. IsUnderWay app plan limits k) plans least h.way h.among) in
@@ -115,3 +116,36 @@ module _ (app : Application) (formed : IsWellFormed app) (limits : Limits) (are 
                 (λ plan e. omega (arith, e, length-append plan (before_this n now), length-append least (before_this n now)))
                 plans h.long);
           }
+
+-- ---- whether the handlers can come
+
+pass_all : {X : Type 0} (p : X → Bool) (xs : List X) → AllByRecursion (λ x. p x ≡ true) xs → filter p xs ≡ xs
+pass_all p [] h = refl
+pass_all p (x ∷ xs) h = rw h.0 (ap (λ ys. x ∷ ys) (pass_all p xs h.1))
+
+pass_none : {X : Type 0} (p : X → Bool) (xs : List X) → AllByRecursion (λ x. p x ≡ false) xs → filter p xs ≡ []
+pass_none p [] h = refl
+pass_none p (x ∷ xs) h = rw h.0 (pass_none p xs h.1)
+
+-- That is the same for all plans that are at a kernel.
+module _ (app : Application) (limits : Limits) (k : Machine) (now : List ℕ) (came : Bool)
+    (asked : (s : State) → Stands k s → came ≡ can_all_come app now s)
+    (n count : ℕ) (least : List Injection) (plans : List (List Injection)) (at : AreAt app limits n k count least plans) where
+  all_agree : AllByRecursion (λ plan. can_all_come app now (state_after app limits plan n) ≡ came) plans
+  all_agree =
+      all_weaker (λ plan. IsUnderWay app plan limits k)
+      (λ plan. can_all_come app now (state_after app limits plan n) ≡ came)
+      (λ plan way. sym (asked (state_after app limits plan n)
+      (subst (λ (m : ℕ). Stands k (state_after app limits plan m)) at.here way.stands))) plans at.way
+
+  pub all_follow : came ≡ true → followed app limits n plans now ≡ each_followed n plans now
+  all_follow on =
+      ap (λ (ps : List (List Injection)). each_followed n ps now)
+      (pass_all (λ plan. can_all_come app now (state_after app limits plan n)) plans
+      (subst (λ (b : Bool). AllByRecursion (λ plan. can_all_come app now (state_after app limits plan n) ≡ b) plans) on all_agree))
+
+  pub none_follows : came ≡ false → followed app limits n plans now ≡ []
+  none_follows off =
+      ap (λ (ps : List (List Injection)). each_followed n ps now)
+      (pass_none (λ plan. can_all_come app now (state_after app limits plan n)) plans
+      (subst (λ (b : Bool). AllByRecursion (λ plan. can_all_come app now (state_after app limits plan n) ≡ b) plans) off all_agree))

@@ -27,7 +27,7 @@ placed_from app limits handlers most zero n plan = []
 placed_from app limits handlers most (suc fuel) n plan =
     placed_at plan n (state_after app limits plan n) (end_of app limits (state_after app limits plan n))
     ++ flat_map (placed_from app limits handlers most fuel (suc n))
-    (unless_ended (end_of app limits (state_after app limits plan n)) (extensions handlers most n plan))
+    (unless_ended (end_of app limits (state_after app limits plan n)) (extensions app limits handlers most n plan))
 
 -- the same of all these plans, up to the limit of steps
 abbrev pub rests_of : Application → Limits → (handlers : List ℕ) → (levels n : ℕ) → Plans → List Placed
@@ -95,12 +95,13 @@ Takes app limits levels until k count least old new = (handlers : List ℕ) (mor
     → AreAt app limits k.steps k count least more → Holds app limits handlers levels k.steps until old total
     → Holds app limits handlers levels k.steps until new (total ++ rests_of app limits handlers levels k.steps more)
 
--- The plans of this node, followed by each of these choices, are added too.
-abbrev pub TakesBy : Application → Limits → (levels until : ℕ) → Node → (nows : List (List ℕ)) → (old new : Frontier) → Type 0
-TakesBy app limits levels until node nows old new = (handlers : List ℕ) (n : ℕ) (more : Plans) (total : List Placed)
-    → AreOf app limits n node more → Holds app limits handlers levels (n + 1) until old total
+-- The plans at this kernel, followed by each of these choices that can come there, are added too.
+abbrev pub TakesBy : Application → Limits → (levels until : ℕ) → Machine → (count : ℕ) → (least : List Injection)
+    → (nows : List (List ℕ)) → (old new : Frontier) → Type 0
+TakesBy app limits levels until k count least nows old new = (handlers : List ℕ) (n : ℕ) (more : Plans) (total : List Placed)
+    → AreAt app limits n k count least more → Holds app limits handlers levels (n + 1) until old total
     → Holds app limits handlers levels (n + 1) until new (total ++ rests_of app limits handlers levels (n + 1)
-    (flat_map (followed n more) nows))
+    (flat_map (followed app limits n more) nows))
 
 -- The node's plans are done with: they have ended, and are found, or they go on.
 abbrev pub PassesAt : Application → Limits → (handlers : List ℕ) → (levels m n until : ℕ) → Node → (old new : Frontier) → Type 0

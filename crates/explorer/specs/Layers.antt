@@ -1,10 +1,10 @@
 -- Which plans reach which kernels before a step.
-use Rattle.std.specs.Prelude.{◌≡◌, ◌<◌, ◌-◌, ℕ, false, List, ◌++◌, None, Contains, length, map, sum_by}
+use Rattle.std.specs.Prelude.{◌≡◌, ◌<◌, ◌-◌, ℕ, false, List, ◌++◌, None, Contains, filter, length, map, sum_by}
 use Rattle.std.specs.List.{AllByRecursion, AllZip, flat_map}
 use Rattle.model.specs.declared.plan.Injection.{Injection}
 use Rattle.model.specs.Application.{Application, Limits}
 use Rattle.model.specs.Run.{end_of, state_after}
-use Rattle.model.specs.Placements.{before_this, choices, is_less}
+use Rattle.model.specs.Placements.{before_this, can_all_come, choices, is_less}
 use Rattle.machine.specs.declared.machine.Machine.{Machine}
 use Rattle.machine.specs.Can.{IsUnderWay}
 use Rattle.explorer.specs.declared.layer.Node.{Node}
@@ -49,8 +49,15 @@ pub record GoesOn (app : Application) (limits : Limits) (k : Machine) : Type 0 w
       → end_of app limits (state_after app limits other k.steps) ≡ None
 
 -- these plans, each followed by these handlers
-abbrev pub followed : ℕ → List (List Injection) → List ℕ → List (List Injection)
-followed n plans now = map (λ plan. plan ++ before_this n now) plans
+abbrev pub each_followed : ℕ → List (List Injection) → List ℕ → List (List Injection)
+each_followed n plans now = map (λ plan. plan ++ before_this n now) plans
+
+-- those of them in whose runs the handlers can come there
+abbrev pub able : Application → Limits → ℕ → List ℕ → List (List Injection) → List (List Injection)
+able app limits n now plans = filter (λ plan. can_all_come app now (state_after app limits plan n)) plans
+
+abbrev pub followed : Application → Limits → ℕ → List (List Injection) → List ℕ → List (List Injection)
+followed app limits n plans now = each_followed n (able app limits n now plans) now
 
 -- The run with these injections is under way at this kernel, and all of them come before.
 pub record HasWay (app : Application) (limits : Limits) (k : Machine) (injections : List Injection) : Type 0 where

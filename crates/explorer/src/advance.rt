@@ -1,22 +1,23 @@
 //! From the kernels before a step to those after it.
 ghost use Rattle.std.specs.Prelude.{◌≡◌, ◌<◌, ◌≤◌, ◌+◌, ◌-◌, ◌*◌, ◌^◌, [], ◌∷◌, OnOk, length};
-ghost use Rattle.std.specs.List.{AllByRecursion};
+ghost use Rattle.std.specs.List.{AllByRecursion, flat_map};
 ghost use Rattle.explorer.specs.Choosing.{AreLevels};
 ghost use Rattle.explorer.specs.Frontiers.{IsAdvanced, IsAtBlockEnd, IsReady, IsThrough, Passes, PassesSpent, Takes, TakesBy, number_in};
 ghost use Rattle.explorer.specs.Layers.{GoesOn, HasWay, nows_of};
 
-use crate::choices::{Choice, Choices};
+use crate::choices::{Choice, Choices, Level};
 use crate::findings::{Found, count_end};
 use crate::frontier::Frontier;
 use crate::layer::{Layer, Node};
 use crate::placement::Placement;
-use crate::settling::{Stepper, settle};
+use crate::settling::{Reported, Stepper, settle};
+use kernel::Kernel;
 use model::{App, HandlerId, Limits, Memory, Meter};
 use std::alloc::Global;
 
-// Puts this many plans, the least of them this one, where they go on from the stepper's kernel.
-// Those with injections left go to the live kernels. The others go on up to the end of the block,
-// and then to the spent ones.
+// Puts this many plans, the least of them this one, where they go on from this kernel. Those with
+// injections left go to the live kernels. The others go on up to the end of the block, and then to
+// the spent ones.
 fn keep(
     alloc: Global,
     app: &App,
@@ -25,18 +26,18 @@ fn keep(
     until: u32,
     count: u128,
     least: Placement,
-    stepper: &mut Stepper,
+    kernel: &mut Kernel,
+    reported: &mut Reported,
     frontier: &mut Frontier,
 ) -> Result<(), Memory>
-    requires way { HasWay app.now limits.now stepper.old.kernel least }
-    requires ahead { stepper.old.kernel.steps ≤ until }
+    requires way { HasWay app.now limits.now kernel.old least }
+    requires ahead { kernel.old.steps ≤ until }
     requires room { number_in frontier.old + count < 2 ^ 128 }
-    ensures base { stepper.new.base ≡ stepper.old.base }
-    ensures takes { OnOk result (Takes app.now limits.now levels until stepper.old.kernel count least frontier.old frontier.new) }
+    ensures takes { OnOk result (Takes app.now limits.now levels until kernel.old count least frontier.old frontier.new) }
     ensures count { OnOk result (number_in frontier.new ≡ number_in frontier.old + count) }
 {
     if least.len() + 1 < levels {
-        let here = stepper.kernel.steps();
+        let here = kernel.steps();
         settle(
             alloc,
             app,
@@ -44,7 +45,8 @@ fn keep(
             here,
             count,
             least,
-            stepper,
+            kernel,
+            reported,
             &mut frontier.live,
             &mut frontier.findings,
         )
@@ -56,112 +58,116 @@ fn keep(
             until,
             count,
             least,
-            stepper,
+            kernel,
+            reported,
             &mut frontier.spent,
             &mut frontier.findings,
         )
     }
 }
 
-// From the kernel of a node, at which the stepper's base is, its plans go on with these handlers before the step.
+// This many plans, the least of them this one, go on from a kernel with these handlers before the
+// step, if each can come there.
 fn step_by(
     alloc: Global,
     app: &App,
     limits: &Limits,
     levels: usize,
     until: u32,
-    node: &Node,
+    count: u128,
+    least: &Placement,
     now: &[HandlerId],
-    stepper: &mut Stepper,
+    kernel: &mut Kernel,
+    reported: &mut Reported,
     frontier: &mut Frontier,
 ) -> Result<(), Memory>
-    requires here { stepper.old.base ≡ node.now.kernel.value }
-    requires way { HasWay app.now limits.now node.now.kernel.value node.now.least }
-    requires goes { GoesOn app.now limits.now node.now.kernel.value }
-    requires few { length node.now.least + length now.now ≤ 3 }
-    requires ahead { node.now.kernel.value.steps < until }
-    requires room { number_in frontier.old + node.now.count < 2 ^ 128 }
-    ensures base { stepper.new.base ≡ stepper.old.base }
-    ensures takes { OnOk result (TakesBy app.now limits.now levels until node.now (now.now ∷ []) frontier.old frontier.new) }
-    ensures count { OnOk result (number_in frontier.new ≡ number_in frontier.old + node.now.count) }
+    requires way { HasWay app.now limits.now kernel.old least.now }
+    requires goes { GoesOn app.now limits.now kernel.old }
+    requires few { length least.now + length now.now ≤ 3 }
+    requires ahead { kernel.old.steps < until }
+    requires room { number_in frontier.old + count < 2 ^ 128 }
+    ensures takes { OnOk result (TakesBy app.now limits.now levels until kernel.old count least.now (now.now ∷ []) frontier.old frontier.new) }
+    ensures count { OnOk result (number_in frontier.new ≤ number_in frontier.old + count) }
 {
     app.well_formed();
     limits.well_formed();
-    let least = node.least.followed_by(node.kernel.steps(), now);
     let mut meter = Meter::new();
-    stepper.kernel.set_from(&stepper.base);
-    stepper
-        .kernel
-        .step(app, now, limits, &mut meter, &mut stepper.log);
+    let step = kernel.steps();
+    let came = kernel.step(app, now, limits, &mut meter, &mut reported.log);
+    if !came {
+        return Ok(());
+    }
+    let least = least.followed_by(step, now);
     keep(
-        alloc, app, limits, levels, until, node.count, least, stepper, frontier,
+        alloc, app, limits, levels, until, count, least, kernel, reported, frontier,
     )
 }
 
-// From the kernel of a node its plans go on with each of these choices, of this many handlers.
+// From the stepper's base the plans go on with each of these choices, of one number of handlers.
 fn step_by_each(
     alloc: Global,
     app: &App,
     limits: &Limits,
     levels: usize,
     until: u32,
-    node: &Node,
+    count: u128,
+    least: &Placement,
     level: &[Choice],
     stepper: &mut Stepper,
     frontier: &mut Frontier,
 ) -> Result<(), Memory>
-    requires here { stepper.old.base ≡ node.now.kernel.value }
-    requires way { HasWay app.now limits.now node.now.kernel.value node.now.least }
-    requires goes { GoesOn app.now limits.now node.now.kernel.value }
-    requires few { AllByRecursion (λ now. length node.now.least + length now ≤ 3) level.now }
-    requires ahead { node.now.kernel.value.steps < until }
-    requires room { number_in frontier.old + length level.now * node.now.count < 2 ^ 128 }
+    requires way { HasWay app.now limits.now stepper.old.base least.now }
+    requires goes { GoesOn app.now limits.now stepper.old.base }
+    requires few { AllByRecursion (λ now. length least.now + length now ≤ 3) level.now }
+    requires ahead { stepper.old.base.steps < until }
+    requires room { number_in frontier.old + length level.now * count < 2 ^ 128 }
     ensures base { stepper.new.base ≡ stepper.old.base }
-    ensures takes { OnOk result (TakesBy app.now limits.now levels until node.now level.now frontier.old frontier.new) }
-    ensures count { OnOk result (number_in frontier.new ≡ number_in frontier.old + length level.now * node.now.count) }
+    ensures takes { OnOk result (TakesBy app.now limits.now levels until stepper.old.base count least.now level.now frontier.old frontier.new) }
+    ensures count { OnOk result (number_in frontier.new ≤ number_in frontier.old + length level.now * count) }
 {
     for now in level {
+        stepper.kernel.set_from(&stepper.base);
         step_by(
             alloc,
             app,
             limits,
             levels,
             until,
-            node,
+            count,
+            least,
             now.as_slice(),
-            stepper,
+            &mut stepper.kernel,
+            &mut stepper.reported,
             frontier,
         )?;
     }
     Ok(())
 }
 
-// From the kernel of a node its plans go on with each choice of as many handlers as they have left.
-fn go_on(
+// From the stepper's base the plans go on with each choice of these levels.
+fn step_by_levels(
     alloc: Global,
     app: &App,
     limits: &Limits,
-    choices: &Choices,
+    all: usize,
     until: u32,
-    node: &Node,
+    count: u128,
+    least: &Placement,
+    levels: &[Level],
     stepper: &mut Stepper,
     frontier: &mut Frontier,
 ) -> Result<(), Memory>
-    requires here { stepper.old.base ≡ node.now.kernel.value }
-    requires way { HasWay app.now limits.now node.now.kernel.value node.now.least }
-    requires goes { GoesOn app.now limits.now node.now.kernel.value }
-    requires levels { AreLevels choices.now.handlers.items choices.now.levels.items }
-    requires few { length choices.now.levels.items ≤ 4 }
-    requires left { length node.now.least < length choices.now.levels.items }
-    requires ahead { node.now.kernel.value.steps < until }
-    requires room { number_in frontier.old
-        + length (nows_of choices.now.handlers.items (length choices.now.levels.items) node.now.least) * node.now.count < 2 ^ 128 }
-    ensures { OnOk result (TakesBy app.now limits.now (length choices.now.levels.items) until node.now
-        (nows_of choices.now.handlers.items (length choices.now.levels.items) node.now.least) frontier.old frontier.new) }
+    requires way { HasWay app.now limits.now stepper.old.base least.now }
+    requires goes { GoesOn app.now limits.now stepper.old.base }
+    requires few { AllByRecursion (λ level. AllByRecursion (λ now. length least.now + length now ≤ 3) level) levels.now }
+    requires ahead { stepper.old.base.steps < until }
+    requires room { number_in frontier.old + length (flat_map (λ level. level) levels.now) * count < 2 ^ 128 }
+    ensures base { stepper.new.base ≡ stepper.old.base }
+    ensures takes { OnOk result (TakesBy app.now limits.now all until stepper.old.base count least.now
+        (flat_map (λ level. level) levels.now) frontier.old frontier.new) }
+    ensures count { OnOk result (number_in frontier.new
+        ≤ number_in frontier.old + length (flat_map (λ level. level) levels.now) * count) }
 {
-    let left = choices.levels.len() - node.least.len();
-    let levels = &choices.levels.as_slice()[..left];
-    let all = choices.levels.len();
     for level in levels {
         step_by_each(
             alloc,
@@ -169,13 +175,60 @@ fn go_on(
             limits,
             all,
             until,
-            node,
+            count,
+            least,
             level.as_slice(),
             stepper,
             frontier,
         )?;
     }
     Ok(())
+}
+
+// From the stepper's base the plans go on with each choice of as many handlers as they have left.
+// That no handler comes is the last, since that needs no copy of the kernel.
+fn go_on(
+    alloc: Global,
+    app: &App,
+    limits: &Limits,
+    choices: &Choices,
+    until: u32,
+    count: u128,
+    least: &Placement,
+    stepper: &mut Stepper,
+    frontier: &mut Frontier,
+) -> Result<(), Memory>
+    requires way { HasWay app.now limits.now stepper.old.base least.now }
+    requires goes { GoesOn app.now limits.now stepper.old.base }
+    requires levels { AreLevels choices.now.handlers.items choices.now.levels.items }
+    requires few { length choices.now.levels.items ≤ 4 }
+    requires left { length least.now < length choices.now.levels.items }
+    requires ahead { stepper.old.base.steps < until }
+    requires room { number_in frontier.old
+        + length (nows_of choices.now.handlers.items (length choices.now.levels.items) least.now) * count < 2 ^ 128 }
+    ensures { OnOk result (TakesBy app.now limits.now (length choices.now.levels.items) until stepper.old.base count least.now
+        (nows_of choices.now.handlers.items (length choices.now.levels.items) least.now) frontier.old frontier.new) }
+{
+    let left = choices.levels.len() - least.len();
+    let all = choices.levels.len();
+    let (up_to_most, _) = choices.levels.as_slice().split_at(left);
+    let (_, some) = up_to_most.split_at(1);
+    step_by_levels(
+        alloc, app, limits, all, until, count, least, some, stepper, frontier,
+    )?;
+    step_by(
+        alloc,
+        app,
+        limits,
+        all,
+        until,
+        count,
+        least,
+        &[],
+        &mut stepper.base,
+        &mut stepper.reported,
+        frontier,
+    )
 }
 
 // The plans of a node go on, or are found with their end.
@@ -185,39 +238,50 @@ fn pass(
     limits: &Limits,
     choices: &Choices,
     until: u32,
-    node: &Node,
+    node: Node,
     stepper: &mut Stepper,
     frontier: &mut Frontier,
 ) -> Result<(), Memory>
-    requires way { HasWay app.now limits.now node.now.kernel.value node.now.least }
+    requires way { HasWay app.now limits.now node.kernel.value node.least }
     requires levels { AreLevels choices.now.handlers.items choices.now.levels.items }
     requires few { length choices.now.levels.items ≤ 4 }
-    requires left { length node.now.least < length choices.now.levels.items }
-    requires ahead { node.now.kernel.value.steps < until }
+    requires left { length node.least < length choices.now.levels.items }
+    requires ahead { node.kernel.value.steps < until }
     requires room { number_in frontier.old
-        + length (nows_of choices.now.handlers.items (length choices.now.levels.items) node.now.least) * node.now.count < 2 ^ 128 }
-    requires found { number_in frontier.old + node.now.count < 2 ^ 128 }
+        + length (nows_of choices.now.handlers.items (length choices.now.levels.items) node.least) * node.count < 2 ^ 128 }
+    requires found { number_in frontier.old + node.count < 2 ^ 128 }
     ensures { OnOk result (Passes app.now limits.now choices.now.handlers.items (length choices.now.levels.items)
-        until node.now frontier.old frontier.new) }
+        until node frontier.old frontier.new) }
 {
     stepper.base.restore(&node.kernel);
+    frontier.live.keep_memory(node.kernel);
     match stepper.base.ended(app, limits) {
         Some(end) => count_end(
             &mut frontier.findings,
             Found {
                 number: node.count,
-                least: node.least.copy(),
-                steps: node.kernel.steps(),
+                least: node.least,
+                steps: stepper.base.steps(),
                 ticks: stepper.base.ticks(),
                 end,
             },
         ),
-        None => go_on(alloc, app, limits, choices, until, node, stepper, frontier),
+        None => go_on(
+            alloc,
+            app,
+            limits,
+            choices,
+            until,
+            node.count,
+            &node.least,
+            stepper,
+            frontier,
+        ),
     }
 }
 
 /// From the live kernels before a step to those after it: what ends before it is found, and the rest goes on. Plans that have no injection
-/// left then go on up to the end of the block. The other layer has no kernels that are of use, and has the old ones then.
+/// left then go on up to the end of the block. The other layer has no kernels that are of use, before and after that.
 pub(crate) fn advance(
     alloc: Global,
     app: &App,
@@ -235,7 +299,7 @@ pub(crate) fn advance(
         frontier.old frontier.new) }
 {
     frontier.take_live(alloc, layer);
-    for node in layer.nodes.as_slice() {
+    while let Some(node) = layer.nodes.pop() {
         pass(alloc, app, limits, choices, until, node, stepper, frontier)?;
     }
     Ok(())
@@ -247,32 +311,33 @@ fn pass_spent(
     app: &App,
     limits: &Limits,
     until: u32,
-    node: &Node,
+    node: Node,
     stepper: &mut Stepper,
     frontier: &mut Frontier,
 ) -> Result<(), Memory>
-    requires way { HasWay app.now limits.now node.now.kernel.value node.now.least }
-    requires ahead { node.now.kernel.value.steps ≤ until }
-    requires room { number_in frontier.old + node.now.count < 2 ^ 128 }
-    ensures { OnOk result (PassesSpent app.now limits.now until node.now frontier.old frontier.new) }
+    requires way { HasWay app.now limits.now node.kernel.value node.least }
+    requires ahead { node.kernel.value.steps ≤ until }
+    requires room { number_in frontier.old + node.count < 2 ^ 128 }
+    ensures { OnOk result (PassesSpent app.now limits.now until node frontier.old frontier.new) }
 {
-    let least = node.least.copy();
     stepper.kernel.restore(&node.kernel);
+    frontier.spent.keep_memory(node.kernel);
     settle(
         alloc,
         app,
         limits,
         until,
         node.count,
-        least,
-        stepper,
+        node.least,
+        &mut stepper.kernel,
+        &mut stepper.reported,
         &mut frontier.spent,
         &mut frontier.findings,
     )
 }
 
-/// From the spent kernels at the end of a block to those at the end of the next one. The other layer has no kernels that are of use, and has
-/// the old ones then.
+/// From the spent kernels at the end of a block to those at the end of the next one. The other layer has no kernels that are of use, before
+/// and after that.
 pub(crate) fn advance_spent(
     alloc: Global,
     app: &App,
@@ -288,7 +353,7 @@ pub(crate) fn advance_spent(
     ensures { OnOk result (IsThrough app.now limits.now end until frontier.old frontier.new) }
 {
     frontier.take_spent(alloc, layer);
-    for node in layer.nodes.as_slice() {
+    while let Some(node) = layer.nodes.pop() {
         pass_spent(alloc, app, limits, until, node, stepper, frontier)?;
     }
     Ok(())

@@ -57,6 +57,8 @@ impl Frontier {
     {
         layer.clear(alloc, self.live.nodes.len());
         swap(layer, &mut self.live);
+        // The memory that is spare is for the kernels that are put next.
+        swap(&mut layer.spare, &mut self.live.spare);
     }
 
     /// Takes the spent kernels, in the same way.
@@ -68,6 +70,7 @@ impl Frontier {
     {
         layer.clear(alloc, self.spent.nodes.len());
         swap(layer, &mut self.spent);
+        swap(&mut layer.spare, &mut self.spent.spare);
     }
 
     /// How many steps the next block takes, with this many handlers. Each of its steps makes about

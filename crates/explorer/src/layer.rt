@@ -11,6 +11,9 @@ use std::alloc::Global;
 // The number in a place that has no node.
 const NO_NODE: u32 = u32::MAX;
 
+// For more kernels than this many the table doesn't grow.
+const MOST_KERNELS: usize = 1 << 28;
+
 /// A kernel that runs have reached before a step, with plans of equally many injections: how many
 /// they are, and the least of them.
 #[derive(Drop)]
@@ -30,14 +33,14 @@ pub(crate) struct Layer {
     pub(crate) nodes: Vec<Node>,
     heads: Vec<u32>,
     // The memory of kernels that can't be used any more.
-    spare: Vec<Box<Snapshot>>,
+    pub(crate) spare: Vec<Box<Snapshot>>,
 }
 
 // A table for about this many kernels, in the memory that it has, if that suffices. If there is no
-// memory for it, none will be found.
+// memory for it, none will be found. Its places are a power of two.
 fn clear_table(alloc: Global, heads: &mut Vec<u32>, about: usize) {
-    let places = about.saturating_mul(2).saturating_add(8);
-    if heads.len() < places {
+    if heads.len() / 2 < about || heads.is_empty() {
+        let places = about.min(MOST_KERNELS).next_power_of_two() * 4;
         *heads = vec![in alloc; NO_NODE; places].unwrap_or(Vec::new(alloc));
     } else {
         heads.as_mut_slice().fill(NO_NODE);
@@ -58,16 +61,20 @@ impl Layer {
         }
     }
 
-    /// Drops its kernels, and keeps their memory for about this many others.
+    /// Drops its kernels, and makes a table for about this many others.
     pub(crate) fn clear(&mut self, alloc: Global, about: usize)
         ensures { self.new.nodes.items ≡ [] }
     {
-        while let Some(node) = self.nodes.pop() {
-            if self.spare.push(node.kernel).is_err() {
-                self.nodes.clear();
-            }
-        }
+        self.nodes.clear();
         clear_table(alloc, &mut self.heads, about);
+    }
+
+    /// Keeps the memory of a kernel that can't be used any more. The next kernel that is put is written there.
+    pub(crate) fn keep_memory(&mut self, kernel: Box<Snapshot>)
+        ensures { self.new.nodes ≡ self.old.nodes }
+    {
+        // If there is no room for it, it is given back.
+        let _refused = self.spare.push(kernel).is_err();
     }
 
     /// Whether there are none.
@@ -81,7 +88,7 @@ impl Layer {
     fn place(&self, hint: u64) -> usize {
         match self.heads.len() {
             0 => 0,
-            places => (hint as usize) % places,
+            places => (hint as usize) & (places - 1),
         }
     }
 

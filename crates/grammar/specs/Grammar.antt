@@ -28,8 +28,10 @@ use Rattle.model.specs.declared.value.Value.TheVariants as value
 use Rattle.model.specs.declared.value.Arithmetic.TheVariants.{Add, Sub, Mul, Div, Mod, And, Or, Xor}
 use Rattle.model.specs.declared.value.ValueOp.{ValueOp}
 use Rattle.model.specs.declared.value.ValueOp.TheVariants.{Load, Store, Compute}
+use Rattle.model.specs.declared.source.SourceOp.{SourceOp}
+use Rattle.model.specs.declared.source.SourceOp.TheVariants.{Arm, Disarm, Raise, Cancel}
 use Rattle.model.specs.Words.{word_of, word_of_isr}
-use Rattle.model.specs.Scripts.{is_defined, is_in_range, is_mask, InRange}
+use Rattle.model.specs.Scripts.{is_defined, is_in_range, is_mask, is_near, InRange}
 use Rattle.grammar.specs.declared.object_sort.ObjectSort.{ObjectSort}
 use Rattle.grammar.specs.declared.object_sort.ObjectSort.TheVariants.{Queue, Semaphore, Mutex}
 
@@ -77,12 +79,13 @@ action_of w =
     else if bytes_eq w (codes "keep") then Some (notify.Keep tt)
     else None
 
--- What a name in an op's text has to be that of: an object of a sort, an event group, a task, or a variable.
+-- What a name in an op's text has to be that of: an object of a sort, an event group, a task, a variable, or a handler.
 pub data NameSort : Type 0 where
   OfObject : (sort : ObjectSort) → NameSort
   OfGroup : NameSort
   OfTask : NameSort
   OfVariable : NameSort
+  OfHandler : NameSort
 
 -- which entry of a sort a word names, if it names one
 abbrev pub Naming : Type 0
@@ -168,6 +171,10 @@ TaskName next = Name OfTask next
 -- the name of a variable
 abbrev pub VariableName : {O : Type 0} → (VariableId → Form O) → Form O
 VariableName next = Name OfVariable (λ x. next (variable_of x))
+
+-- the name of a handler
+abbrev pub HandlerName : {O : Type 0} → (ℕ → Form O) → Form O
+HandlerName next = Name OfHandler next
 
 -- the arguments of a condition: its bits, whether any of them or all, and whether they are kept or cleared
 abbrev pub Bits : {O : Type 0} → (Condition → Form O) → Form O
@@ -259,6 +266,15 @@ suspension_forms =
     ∷ (codes "exit_critical", Done ExitCritical)
     ∷ []
 
+-- those of each op on a handler, of tasks or of handlers
+abbrev pub source_forms : {O : Type 0} → (ℕ → SourceOp → O) → List (Word × Form O)
+source_forms made =
+    (codes "arm", HandlerName (λ handler. Done (made handler Arm)))
+    ∷ (codes "disarm", HandlerName (λ handler. Done (made handler Disarm)))
+    ∷ (codes "raise", HandlerName (λ handler. Number (λ ticks. Done (made handler (Raise ticks)))))
+    ∷ (codes "cancel", HandlerName (λ handler. Done (made handler Cancel)))
+    ∷ []
+
 -- those of each op on values, of tasks or of handlers
 abbrev pub value_forms : {O : Type 0} → (ValueOp → O) → List (Word × Form O)
 value_forms made =
@@ -278,13 +294,14 @@ value_forms made =
 abbrev pub forms : List (Word × Form Op)
 forms =
     basic_forms ++ block_forms ++ queue_forms ++ semaphore_forms ++ group_forms ++ notification_forms ++ suspension_forms
-    ++ value_forms op.Value
+    ++ source_forms op.Source ++ value_forms op.Value
 
 -- the arguments of a command, which sets bits or clears them
 abbrev pub CommandForm : (clear : Bool) → Form IsrOp
 CommandForm clear = GroupName (λ group. Number (λ mask. Done (isr.Command (record { group = group; mask = mask; clear = clear }))))
 
--- those of each op of a handler but the ones on values. A handler never waits and has no loops: its `end` is that of an `if`.
+-- those of each op of a handler but the ones on handlers and on values. A handler never waits and has no loops: its `end` is that
+-- of an `if`.
 abbrev pub isr_call_forms : List (Word × Form IsrOp)
 isr_call_forms =
     (codes "send", ObjectName Queue (λ queue. GivenValue (λ v. Done (isr.Do queue (Send v)))))
@@ -307,7 +324,7 @@ isr_call_forms =
 
 -- those of each op of a handler
 abbrev pub isr_forms : List (Word × Form IsrOp)
-isr_forms = isr_call_forms ++ value_forms isr.Value
+isr_forms = isr_call_forms ++ source_forms isr.Source ++ value_forms isr.Value
 
 -- The first of these words write the condition, and the others are these. A word for an answer alone says what the last answer
 -- must be, and after `not` what it must not be. After `below` and `above` there is what it is compared with.
@@ -346,6 +363,7 @@ Spells named op (w ∷ ws) = (w ≡ word_of op) × WritesBy named forms ws op ×
 abbrev pub is_isr_in_range : IsrOp → Bool
 is_isr_in_range (isr.Command c) = is_mask c.mask
 is_isr_in_range (isr.Value values) = is_defined values
+is_isr_in_range (isr.Source handler what) = is_near what
 is_isr_in_range _ = true
 
 -- the same as a fact

@@ -1,12 +1,12 @@
 //! How names in the text of an op are read.
 use crate::name::is_name;
 use crate::object_sort::ObjectSort;
-use model::{GroupId, ObjectId, TaskId, VariableId};
+use model::{GroupId, HandlerId, ObjectId, TaskId, VariableId};
 
 /// How names in the text of an op are read.
 pub trait Finding {
     ghost use Rattle.std.specs.Prelude.{◌≡◌, option_map};
-    ghost use Rattle.grammar.specs.Grammar.{Naming, OfObject, OfGroup, OfTask, OfVariable, variable_of};
+    ghost use Rattle.grammar.specs.Grammar.{Naming, OfObject, OfGroup, OfTask, OfVariable, OfHandler, variable_of};
 
     // Which entry of a sort a word names.
     ghost naming: { Self → Naming };
@@ -26,6 +26,10 @@ pub trait Finding {
     /// The variable that a word names.
     fn variable(&self, word: &[u8]) -> Option<VariableId>
         ensures { result ≡ option_map variable_of (naming self.now OfVariable word.now) };
+
+    /// The handler that a word names.
+    fn handler(&self, word: &[u8]) -> Option<HandlerId>
+        ensures { result ≡ naming self.now OfHandler word.now };
 }
 
 /// Any name will do: a text is only looked at for what it spells.
@@ -56,6 +60,14 @@ impl Finding for AnyName {
     fn variable(&self, word: &[u8]) -> Option<VariableId> {
         if is_name(word) {
             Some(VariableId { number: 0 })
+        } else {
+            None
+        }
+    }
+
+    fn handler(&self, word: &[u8]) -> Option<HandlerId> {
+        if is_name(word) {
+            HandlerId::new(0)
         } else {
             None
         }

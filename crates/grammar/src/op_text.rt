@@ -9,14 +9,14 @@ ghost use Rattle.model.specs.declared.op.IsrOp.TheVariants as isr;
 ghost use Rattle.model.specs.declared.op.IsrOp.{IsrOp};
 ghost use Rattle.model.specs.Scripts.{InRange};
 ghost use Rattle.grammar.specs.declared.object_sort.ObjectSort.TheVariants.{Queue};
-ghost use Rattle.grammar.specs.Grammar.{Naming, words_of, Done, Number, ObjectName, GroupName, Bits, WaitTime, forms, block_forms, queue_forms, semaphore_forms, group_forms, notification_forms, suspension_forms, GivenValue, Action, TaskName, Operand, value_forms, CommandForm, isr_forms, read, read_by, if_in_range, is_isr_in_range, op_of, isr_op_of, Spells, SpellsIsr};
+ghost use Rattle.grammar.specs.Grammar.{Naming, words_of, Done, Number, ObjectName, GroupName, Bits, WaitTime, forms, block_forms, queue_forms, semaphore_forms, group_forms, notification_forms, suspension_forms, source_forms, GivenValue, Action, TaskName, Operand, value_forms, CommandForm, isr_forms, read, read_by, if_in_range, is_isr_in_range, op_of, isr_op_of, Spells, SpellsIsr};
 
 use crate::finding::Finding;
 use crate::object_sort::ObjectSort;
 use crate::words::{Words, given, is};
 use model::{
     Access, Arithmetic, Command, Condition, IsrOp, NotificationClear, NotificationMasks,
-    NotificationWait, NotifyAction, Op, TaskId, Value, ValueOp,
+    NotificationWait, NotifyAction, Op, SourceOp, TaskId, Value, ValueOp,
 };
 
 // The call that sends an item to the front or the back of a queue.
@@ -211,11 +211,33 @@ fn value_op_after<F: Finding>(word: &[u8], words: &mut Words<'_>, finding: &F) -
     }
 }
 
+// The op of this word by the forms of handlers and all after them. Its arguments are the next words.
+fn source_op_after<F: Finding>(word: &[u8], words: &mut Words<'_>, finding: &F) -> Option<Op>
+    // What is still to be read is whether the text ends here.
+    ensures { let these = source_forms op.Source ++ value_forms op.Value in MatchOption result
+        (read_by (F.naming finding.now) these word.now words.old ≡ None)
+        (λ op. read_by (F.naming finding.now) these word.now words.old
+        ≡ read (F.naming finding.now) (Done op) words.new) }
+{
+    if is(word, "arm") {
+        Some(Op::Source(words.handler(finding)?, SourceOp::Arm))
+    } else if is(word, "disarm") {
+        Some(Op::Source(words.handler(finding)?, SourceOp::Disarm))
+    } else if is(word, "raise") {
+        let handler = words.handler(finding)?;
+        Some(Op::Source(handler, SourceOp::Raise(words.number()?)))
+    } else if is(word, "cancel") {
+        Some(Op::Source(words.handler(finding)?, SourceOp::Cancel))
+    } else {
+        Some(Op::Value(value_op_after(word, words, finding)?))
+    }
+}
+
 // The op of this word by the forms of suspending and resuming and of critical sections, and all
 // after them. Its arguments are the next words.
 fn suspension_op_after<F: Finding>(word: &[u8], words: &mut Words<'_>, finding: &F) -> Option<Op>
     // What is still to be read is whether the text ends here.
-    ensures { let these = suspension_forms ++ value_forms op.Value in MatchOption result
+    ensures { let these = suspension_forms ++ source_forms op.Source ++ value_forms op.Value in MatchOption result
         (read_by (F.naming finding.now) these word.now words.old ≡ None)
         (λ op. read_by (F.naming finding.now) these word.now words.old
         ≡ read (F.naming finding.now) (Done op) words.new) }
@@ -233,7 +255,7 @@ fn suspension_op_after<F: Finding>(word: &[u8], words: &mut Words<'_>, finding: 
     } else if is(word, "exit_critical") {
         Some(Op::ExitCritical)
     } else {
-        Some(Op::Value(value_op_after(word, words, finding)?))
+        source_op_after(word, words, finding)
     }
 }
 
@@ -241,7 +263,7 @@ fn suspension_op_after<F: Finding>(word: &[u8], words: &mut Words<'_>, finding: 
 // words.
 fn notification_op_after<F: Finding>(word: &[u8], words: &mut Words<'_>, finding: &F) -> Option<Op>
     // What is still to be read is whether the text ends here.
-    ensures { let these = notification_forms ++ suspension_forms ++ value_forms op.Value in MatchOption result
+    ensures { let these = notification_forms ++ suspension_forms ++ source_forms op.Source ++ value_forms op.Value in MatchOption result
         (read_by (F.naming finding.now) these word.now words.old ≡ None)
         (λ op. read_by (F.naming finding.now) these word.now words.old
         ≡ read (F.naming finding.now) (Done op) words.new) }
@@ -272,7 +294,7 @@ fn notification_op_after<F: Finding>(word: &[u8], words: &mut Words<'_>, finding
 // words.
 fn group_op_after<F: Finding>(word: &[u8], words: &mut Words<'_>, finding: &F) -> Option<Op>
     // What is still to be read is whether the text ends here.
-    ensures { let these = group_forms ++ notification_forms ++ suspension_forms ++ value_forms op.Value in MatchOption result
+    ensures { let these = group_forms ++ notification_forms ++ suspension_forms ++ source_forms op.Source ++ value_forms op.Value in MatchOption result
         (read_by (F.naming finding.now) these word.now words.old ≡ None)
         (λ op. read_by (F.naming finding.now) these word.now words.old
         ≡ read (F.naming finding.now) (Done op) words.new) }
@@ -294,7 +316,7 @@ fn group_op_after<F: Finding>(word: &[u8], words: &mut Words<'_>, finding: &F) -
 // the next words.
 fn semaphore_op_after<F: Finding>(word: &[u8], words: &mut Words<'_>, finding: &F) -> Option<Op>
     // What is still to be read is whether the text ends here.
-    ensures { let these = semaphore_forms ++ group_forms ++ notification_forms ++ suspension_forms ++ value_forms op.Value in MatchOption result
+    ensures { let these = semaphore_forms ++ group_forms ++ notification_forms ++ suspension_forms ++ source_forms op.Source ++ value_forms op.Value in MatchOption result
         (read_by (F.naming finding.now) these word.now words.old ≡ None)
         (λ op. read_by (F.naming finding.now) these word.now words.old
         ≡ read (F.naming finding.now) (Done op) words.new) }
@@ -317,7 +339,7 @@ fn semaphore_op_after<F: Finding>(word: &[u8], words: &mut Words<'_>, finding: &
 // are the next words.
 fn reading_op_after<F: Finding>(word: &[u8], words: &mut Words<'_>, finding: &F) -> Option<Op>
     // What is still to be read is whether the text ends here.
-    ensures { let these = drop 3 queue_forms ++ semaphore_forms ++ group_forms ++ notification_forms ++ suspension_forms ++ value_forms op.Value in MatchOption result
+    ensures { let these = drop 3 queue_forms ++ semaphore_forms ++ group_forms ++ notification_forms ++ suspension_forms ++ source_forms op.Source ++ value_forms op.Value in MatchOption result
         (read_by (F.naming finding.now) these word.now words.old ≡ None)
         (λ op. read_by (F.naming finding.now) these word.now words.old
         ≡ read (F.naming finding.now) (Done op) words.new) }
@@ -338,7 +360,7 @@ fn reading_op_after<F: Finding>(word: &[u8], words: &mut Words<'_>, finding: &F)
 // The op of this word by the forms of queues and all after them. Its arguments are the next words.
 fn queue_op_after<F: Finding>(word: &[u8], words: &mut Words<'_>, finding: &F) -> Option<Op>
     // What is still to be read is whether the text ends here.
-    ensures { let these = queue_forms ++ semaphore_forms ++ group_forms ++ notification_forms ++ suspension_forms ++ value_forms op.Value in MatchOption result
+    ensures { let these = queue_forms ++ semaphore_forms ++ group_forms ++ notification_forms ++ suspension_forms ++ source_forms op.Source ++ value_forms op.Value in MatchOption result
         (read_by (F.naming finding.now) these word.now words.old ≡ None)
         (λ op. read_by (F.naming finding.now) these word.now words.old
         ≡ read (F.naming finding.now) (Done op) words.new) }
@@ -359,7 +381,7 @@ fn queue_op_after<F: Finding>(word: &[u8], words: &mut Words<'_>, finding: &F) -
 // The op of this word by the forms of blocks and all after them. Its arguments are the next words.
 fn block_op_after<F: Finding>(word: &[u8], words: &mut Words<'_>, finding: &F) -> Option<Op>
     // What is still to be read is whether the text ends here; a number past what the code can hold is out of range.
-    ensures { let these = block_forms ++ queue_forms ++ semaphore_forms ++ group_forms ++ notification_forms ++ suspension_forms ++ value_forms op.Value in MatchOption result
+    ensures { let these = block_forms ++ queue_forms ++ semaphore_forms ++ group_forms ++ notification_forms ++ suspension_forms ++ source_forms op.Source ++ value_forms op.Value in MatchOption result
         (option_and_then if_in_range (read_by (F.naming finding.now) these word.now words.old) ≡ None)
         (λ op. read_by (F.naming finding.now) these word.now words.old
         ≡ read (F.naming finding.now) (Done op) words.new) }
@@ -483,6 +505,28 @@ fn command_op<F: Finding>(clear: bool, words: &mut Words<'_>, finding: &F) -> Op
     Some(IsrOp::Command(Command { group, mask, clear }))
 }
 
+// The op of a handler of this word by the forms of handlers and all after them. Its arguments are the next words.
+fn isr_source_op_after<F: Finding>(word: &[u8], words: &mut Words<'_>, finding: &F) -> Option<IsrOp>
+    // What is still to be read is whether the text ends here.
+    ensures { let these = source_forms isr.Source ++ value_forms isr.Value in MatchOption result
+        (read_by (F.naming finding.now) these word.now words.old ≡ None)
+        (λ op. read_by (F.naming finding.now) these word.now words.old
+        ≡ read (F.naming finding.now) (Done op) words.new) }
+{
+    if is(word, "arm") {
+        Some(IsrOp::Source(words.handler(finding)?, SourceOp::Arm))
+    } else if is(word, "disarm") {
+        Some(IsrOp::Source(words.handler(finding)?, SourceOp::Disarm))
+    } else if is(word, "raise") {
+        let handler = words.handler(finding)?;
+        Some(IsrOp::Source(handler, SourceOp::Raise(words.number()?)))
+    } else if is(word, "cancel") {
+        Some(IsrOp::Source(words.handler(finding)?, SourceOp::Cancel))
+    } else {
+        Some(IsrOp::Value(value_op_after(word, words, finding)?))
+    }
+}
+
 // The op of a handler of this word that is none of the first nine, whose arguments are the next words.
 fn later_isr_op_after<F: Finding>(word: &[u8], words: &mut Words<'_>, finding: &F) -> Option<IsrOp>
     // What is still to be read is whether the text ends here.
@@ -507,7 +551,7 @@ fn later_isr_op_after<F: Finding>(word: &[u8], words: &mut Words<'_>, finding: &
     } else if is(word, "end") {
         Some(IsrOp::EndIf)
     } else {
-        Some(IsrOp::Value(value_op_after(word, words, finding)?))
+        isr_source_op_after(word, words, finding)
     }
 }
 
@@ -564,6 +608,7 @@ fn is_isr_in_range(op: &IsrOp) -> bool
     match *op {
         IsrOp::Command(command) => 1 <= command.mask && command.mask <= Op::MOST_BITS,
         IsrOp::Value(op) => op.is_defined(),
+        IsrOp::Source(_, op) => op.is_in_range(),
         _ => true,
     }
 }

@@ -4,11 +4,13 @@ ghost use Rattle.std.specs.Char.{is_ascii_digit};
 ghost use Rattle.std.specs.List.{list_all, position_or_len};
 ghost use Rattle.std.specs.Str.Parse.{digits_value};
 ghost use Rattle.std.specs.Str.{bytes_eq};
-ghost use Rattle.grammar.specs.Grammar.{words_of, is_number, number_of, number_unless, given, is_of_conditions, operand_of, compared_of, answer_of, choice_of, action_of, OfObject, OfGroup, OfTask, OfVariable, take_by, take_condition};
+ghost use Rattle.grammar.specs.Grammar.{words_of, is_number, number_of, number_unless, given, is_of_conditions, operand_of, compared_of, answer_of, choice_of, action_of, OfObject, OfGroup, OfTask, OfVariable, OfHandler, take_by, take_condition};
 
 use crate::finding::Finding;
 use crate::object_sort::ObjectSort;
-use model::{AnswerCondition, GroupId, NotifyAction, ObjectId, TaskId, Value, VariableId};
+use model::{
+    AnswerCondition, GroupId, HandlerId, NotifyAction, ObjectId, TaskId, Value, VariableId,
+};
 use std::marker::Model;
 
 /// Whether a word is this one.
@@ -296,6 +298,14 @@ impl<'a> Words<'a> {
             (λ x. take_by named self.old ≡ Some (x.number, self.new)) }
     {
         finding.variable(self.next()?)
+    }
+
+    /// The handler that the next word names.
+    pub(crate) fn handler<F: Finding>(&mut self, finding: &F) -> Option<HandlerId>
+        ensures { MatchOption result (take_by (F.naming finding.now OfHandler) self.old ≡ None)
+            (λ handler. take_by (F.naming finding.now OfHandler) self.old ≡ Some (handler, self.new)) }
+    {
+        finding.handler(self.next()?)
     }
 
     /// Which of two words the next word is: whether it is the second.

@@ -10,7 +10,7 @@ ghost use Rattle.jobs.specs.EndStates.{ServesEndState, end_state_of_run};
 ghost use Rattle.jobs.specs.Passing.{IsServed};
 
 use byte_io::Sink;
-use campaign::{ServeFault, app_in, point_named};
+use campaign::{ServeFault, app_in, point_named, row_of};
 use kernel::run_to_end_state;
 use model::{App, End, EndState, Memory, Meter, Plan, Point, Run};
 use report::{Title, write_run_and_end_state};
@@ -26,21 +26,27 @@ fn ended_run(alloc: Global, app: &App, plan: &Plan) -> Result<(Run, EndState), M
     run_to_end_state(alloc, app, plan, app.limits(), &mut Meter::new())
 }
 
-// Whether the point is reached, its row, and its end state. The base run comes first, and is the
-// row if it ends before the point's first injection.
+// The plan of a row: the point's injections if it is reached.
+fn plan_of(alloc: Global, point: &Point, reached: bool) -> Result<Plan, Memory>
+    ensures { IfOk result (λ plan. plan ≡ (if reached then point.now else [])) }
+{
+    if reached {
+        Plan::of(alloc, point)
+    } else {
+        Ok(Plan::none(alloc))
+    }
+}
+
+// Whether the point is reached, its row, and its end state. The row comes once more for that.
 fn ended_row(alloc: Global, app: &App, point: &Point) -> Result<(bool, Run, EndState), Memory>
     ensures row { IfOk result (λ row. IsRow app.now app.now.limits point.now row.0 row.1) }
     ensures end_state { IfOk result (λ row.
         row.2 ≡ end_state_of (state_after app.now app.now.limits (if row.0 then point.now else []) row.1.steps)) }
 {
-    let nothing = Plan::none(alloc);
-    let (base, end_state) = ended_run(alloc, app, &nothing)?;
-    if point.first_step() >= base.steps {
-        return Ok((false, base, end_state));
-    }
-    let plan = Plan::of(alloc, point)?;
+    let (reached, _row) = row_of(alloc, app, point)?;
+    let plan = plan_of(alloc, point, reached)?;
     let (run, end_state) = ended_run(alloc, app, &plan)?;
-    Ok((true, run, end_state))
+    Ok((reached, run, end_state))
 }
 
 // The run that is asked for, what its report is of, and its end state.

@@ -18,8 +18,8 @@ use Rattle.machine.proofs.Acting.{agrees_after}
 -- Where no task holds the scheduler, an op that is no misuse does what it does.
 pub freely : (app : Application) (old new : Machine) (old_log new_log : Logged) (task : ℕ) (op : Op)
     → old.sched.suspensions ≡ 0 → ((s : State) → own_misuse s task op ≡ None) → takes_hold op ≡ false
-    → DoesAny 65 old old_log new new_log (act_by_value app task op)
-    → DoesAny 65 old old_log new new_log (λ s. act_unless app task (misuse s task op) op s)
+    → DoesAny 337 old old_log new new_log (act_by_value app task op)
+    → DoesAny 337 old old_log new new_log (λ s. act_unless app task (misuse s task op) op s)
 freely app old new old_log new_log task op none fine ne d = record {
   at = λ s h.
       subst (AtAny new new_log.told)
@@ -29,35 +29,35 @@ freely app old new old_log new_log task op none fine ne d = record {
 }
 
 -- numbers of events that are within the room of an op
-pub one_within : 1 ≤ 65
+pub one_within : 1 ≤ 337
 one_within = omega arith
 
-pub two_within : 2 ≤ 65
+pub two_within : 2 ≤ 337
 two_within = omega arith
 
-pub all_within : 65 ≤ 65
+pub all_within : 337 ≤ 337
 all_within = omega arith
 
 -- Where there is room for an op, there is for a few events.
-pub room_for_one : (room : ℕ) → 65 ≤ room → 1 ≤ room
+pub room_for_one : (room : ℕ) → 337 ≤ room → 1 ≤ room
 room_for_one room enough = omega arith
 
-pub room_for_two : (room : ℕ) → 65 ≤ room → 2 ≤ room
+pub room_for_two : (room : ℕ) → 337 ≤ room → 2 ≤ room
 room_for_two room enough = omega arith
 
 -- the same of an op that is known by its form
 module _ (app : Application) (old new : Machine) (old_log new_log : Logged) (task : ℕ) (op form : Op) (is : op ≡ form)
     (none : old.sched.suspensions ≡ 0) (fine : (s : State) → own_misuse s task form ≡ None)
     (other : takes_hold form ≡ false) where
-  pub any_by_form : (count : ℕ) → count ≤ 65 → DoesAny count old old_log new new_log (act_by_value app task form)
-      → DoesAny 65 old old_log new new_log (λ s. act_unless app task (misuse s task op) op s)
+  pub any_by_form : (count : ℕ) → count ≤ 337 → DoesAny count old old_log new new_log (act_by_value app task form)
+      → DoesAny 337 old old_log new new_log (λ s. act_unless app task (misuse s task op) op s)
   any_by_form count within d =
-      subst (λ (o : Op). DoesAny 65 old old_log new new_log (λ s. act_unless app task (misuse s task o) o s)) (sym is)
+      subst (λ (o : Op). DoesAny 337 old old_log new new_log (λ s. act_unless app task (misuse s task o) o s)) (sym is)
       (freely app old new old_log new_log task form none fine other
-      (does_more count 65 old new old_log new_log (act_by_value app task form) within d))
+      (does_more count 337 old new old_log new_log (act_by_value app task form) within d))
 
-  pub does_by_form : (count : ℕ) → count ≤ 65 → Agrees old → Does count old old_log new new_log (act_by_value app task form)
-      → DoesAny 65 old old_log new new_log (λ s. act_unless app task (misuse s task op) op s)
+  pub does_by_form : (count : ℕ) → count ≤ 337 → Agrees old → Does count old old_log new new_log (act_by_value app task form)
+      → DoesAny 337 old old_log new new_log (λ s. act_unless app task (misuse s task op) op s)
   does_by_form count within agrees d =
       any_by_form count within (does_any count old new old_log new_log (act_by_value app task form) agrees d)
 

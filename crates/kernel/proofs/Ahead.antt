@@ -8,7 +8,6 @@ use Rattle.model.specs.Application.{Application, Interrupt, interrupts_at}
 use Rattle.model.specs.Scripts.{IsInterrupt, IsWellFormed}
 use Rattle.model.specs.State.{State}
 use Rattle.model.specs.Handlers.{ticks_to_interrupt}
-use Rattle.model.specs.Run.{is_interrupt_to_come}
 use Rattle.model.proofs.Sorting.{by_test}
 use Rattle.model.proofs.Lists.{eqb-refl, eqb-same}
 use Rattle.clock.proofs.Nearest.{least_with}
@@ -75,12 +74,6 @@ none_ever app now n (i ∷ is) within far none =
     (λ t. let low = within.0.last in absurd (head_not i is (none i.tick (ltb-true now i.tick t) (omega arith))))
     (λ t. rw t rest)
 
-none_to_come : (now : ℕ) (is : List Interrupt) → ticks_from now is ≡ [] → list_any (λ (i : Interrupt). nat_lt now i.tick) is ≡ false
-none_to_come now [] e = refl
-none_to_come now (i ∷ is) e = by_test (ltb now i.tick)
-    (λ t. absurd (let f = rw t at e in cc))
-    (λ t. rw t (none_to_come now is (rw t at e)))
-
 module _ (app : Application) (formed : IsWellFormed app) (s : State) (n : ℕ)
     (none : (tick : ℕ) → s.elapsed < tick → tick ≤ s.elapsed + n → interrupts_at app tick ≡ []) where
   none_of_them : (tick : ℕ) → s.elapsed < tick → tick ≤ s.elapsed + n → those_at tick app.interrupts ≡ []
@@ -95,6 +88,3 @@ module _ (app : Application) (formed : IsWellFormed app) (s : State) (n : ℕ)
       least_with (n + 1) a (ticks_to_interrupt app s) (all_later s.elapsed n app.interrupts none_of_them)
       (one_then s.elapsed (n + 1) app.interrupts (omega arith)
       (λ e. next (ap (λ (is : List Interrupt). map (λ (i : Interrupt). i.handler) is) e)))
-
-pub none_is_to_come : (app : Application) (s : State) → ticks_to_interrupt app s ≡ [] → is_interrupt_to_come app s ≡ false
-none_is_to_come app s e = none_to_come s.elapsed app.interrupts e

@@ -1,10 +1,10 @@
 -- A step behind which the running task is at another op of its script, and nothing else changed but what the step reported.
+use Rattle.model.specs.declared.op.Op.TheVariants as op
 use Rattle.model.specs.declared.op.Op.TheVariants.{Value}
 use Rattle.model.specs.Step.{act_by_value}
 use Rattle.model.specs.Ops.{calculate}
 use Rattle.soundness.proofs.Passing.{by_value}
-use denote.Enum.Bare.{sameb, same_true}
-use Rattle.std.proofs.Common.{◌≡◌, ◌≢◌, rules, ◌+◌, ◌||◌, ℕ, Bool, true, false, not, eqb, leb, List, [], ◌∷◌}
+use Rattle.std.proofs.Common.{◌≡◌, ◌≢◌, ◌+◌, ◌||◌, ℕ, true, false, eqb, leb, List, [], ◌∷◌}
 use Rattle.std.proofs.Common.{Option, Some, None, ◌≤◌}
 use Rattle.std.proofs.Common.{refl, ap, sym, subst, ◌∙◌, arith, append-nil}
 use Rattle.model.specs.declared.op.Op.{Op}
@@ -43,10 +43,7 @@ use Rattle.machine.proofs.Either.{any, current_is, either, elapsed_is, progress_
 use Rattle.machine.proofs.Switches.{settled_before, settled_either, settled_on}
 use Rattle.machine.specs.Can.{Runs}
 use Rattle.machine.specs.StandsFor.Stands.{Placed, Placing}
-use Rattle.kernel.specs.contracts.acting.Following.{the_type}
-use Rattle.kernel.specs.declared.acting.Following.{Following}
-use Rattle.kernel.specs.declared.acting.Following.TheVariants.{NextOp, Answered, LettingGo}
-use Rattle.kernel.specs.InScript.{IsAt, is_amid, may_stay_amid}
+use Rattle.kernel.specs.InScript.{IsAt, may_stay_amid}
 use Rattle.kernel.specs.Over.{is_over}
 use Rattle.kernel.proofs.Ending.{begun, begun_with_none, stepped}
 use Rattle.kernel.proofs.Left.{on_if_ready}
@@ -73,6 +70,7 @@ no_misuse Break t s task = refl
 no_misuse Stamp t s task = refl
 no_misuse Since t s task = refl
 no_misuse (Value op) t s task = refl
+no_misuse (op.Source j what) t s task = absurd (cc)
 no_misuse (Await o a w) t s task = absurd (cc)
 no_misuse (Do o a) t s task = absurd (cc)
 no_misuse (GiveMutex o) t s task = absurd (cc)
@@ -111,6 +109,7 @@ takes_none Break t = refl
 takes_none Stamp t = refl
 takes_none Since t = refl
 takes_none (Value op) t = refl
+takes_none (op.Source j what) t = refl
 takes_none (Await o a w) t = refl
 takes_none (Do o a) t = refl
 takes_none (GiveMutex o) t = refl
@@ -231,6 +230,7 @@ other-act app i (Do o a) s t = absurd (cc)
 other-act app i (GiveMutex o) s t = absurd (cc)
 other-act app i (MessagesWaiting o) s t = other-answer app i _ s
 other-act app i (SpacesAvailable o) s t = other-answer app i _ s
+other-act app i (op.Source j what) s t = absurd (cc)
 other-act app i (SetBits g m) s t = absurd (cc)
 other-act app i (ClearBits g m) s t = absurd (cc)
 other-act app i (GetBits g) s t = other-answer app i _ s
@@ -247,25 +247,6 @@ other-act app i ExitCritical s t = absurd (cc)
 other-act app i (NextCommand o) s t = absurd (cc)
 other-act app i Obey s t = absurd (cc)
 
--- What may follow is the task's next op.
-pub amid_next : (a : Following) → true ≡ sameb the_type a NextOp → is_amid a ≡ true
-amid_next a e = ap is_amid (same_true the_type (search rules) a NextOp (sym e))
-
-pub amid_answered : (a : Following) → true ≡ sameb the_type a Answered → is_amid a ≡ true
-amid_answered a e = ap is_amid (same_true the_type (search rules) a Answered (sym e))
-
-pub letting_go : (a : Following) → true ≡ sameb the_type a LettingGo → a ≡ LettingGo
-letting_go a e = same_true the_type (search rules) a LettingGo (sym e)
-
-pub next_op : (a : Following) → false ≡ not (sameb the_type a NextOp) → a ≡ NextOp
-next_op a e = same_true the_type (search rules) a NextOp (unequal (sameb the_type a NextOp) e) where
-  unequal : (x : Bool) → false ≡ not x → x ≡ true
-  unequal true e = refl
-  unequal false e = absurd (cc)
-
-pub not_another : (a : Following) → false ≡ not (sameb the_type a NextOp) → is_amid a ≡ true
-not_another a e = ap is_amid (next_op a e)
-
 -- A log in which the next step begins holds what was reported before.
 pub begun_anew : (old new : Logged) → new.before ≡ all_of old → new.told ≡ [] → all_of new ≡ all_of old
 begun_anew old new before told = told_after new (all_of old) [] before told ∙ append-nil (all_of old)
@@ -275,7 +256,7 @@ pub all_before : (log : Logged) → log.told ≡ [] → all_of log ≡ log.befor
 all_before log e = told_after log log.before [] refl e ∙ append-nil log.before
 
 -- A deed in a step that has reported nothing yet.
-pub reporting : (k new : Machine) (old_log new_log : Logged) (deed : State → State) → DoesAny 65 k old_log new new_log deed
+pub reporting : (k new : Machine) (old_log new_log : Logged) (deed : State → State) → DoesAny 337 k old_log new new_log deed
     → old_log.told ≡ [] → (s : State) → AtAny k [] s → AtAny new new_log.told (deed s)
 reporting k new old_log new_log deed does begun s h =
     does.at s (subst (λ (es : List Event). AtAny k es s) (sym begun) h)

@@ -1,4 +1,5 @@
 -- A kernel whose run goes on keeps within the numbers of the code.
+use Rattle.model.specs.declared.op.Op.TheVariants as op
 use Rattle.model.specs.declared.op.Op.TheVariants.{Value}
 use Rattle.model.specs.Values.{with_number}
 use Rattle.soundness.proofs.Handled.{fits-number}
@@ -106,6 +107,7 @@ loop_room Break nesting h = tt
 loop_room Stamp nesting h = tt
 loop_room Since nesting h = tt
 loop_room (Value op) nesting h = tt
+loop_room (op.Source j what) nesting h = tt
 loop_room (Await o a w) nesting h = tt
 loop_room (Do o a) nesting h = tt
 loop_room (GiveMutex o) nesting h = tt
@@ -150,6 +152,7 @@ known_object app i p Stamp brief t k room = tt
 known_object app i p Since brief t k room = tt
 known_object app i p (Await o a w) brief t k room = absurd (cc)
 known_object app i p (Value op) brief t k room = tt
+known_object app i p (op.Source j what) brief t k room = tt
 known_object app i p (Do o a) brief t k room = λ variables answer.
     room o (with_number variables answer a) (fits-number app o variables answer a ∙ and_left (fits_object app o a) _ t)
 known_object app i p (GiveMutex o) brief t k room = tt
@@ -505,6 +508,7 @@ module _ (app : Application) (formed : IsWellFormed app) (k : Machine) (state : 
         (goes_on o (with_number variables answer a) w (Await o a w) is refl
         (fits-number app o variables answer a ∙ and_left (fits_object app o a) _ (known (Await o a w) is))
         (in_range (Await o a w) is) awake (call_at state task).phase refl)
+    can_op awake (op.Source j what) is = brief_can (op.Source j what) is awake refl
     can_op awake (Do o a) is = brief_can (Do o a) is awake refl
     can_op awake (GiveMutex o) is = brief_can (GiveMutex o) is awake refl
     can_op awake (MessagesWaiting o) is = brief_can (MessagesWaiting o) is awake refl

@@ -131,7 +131,7 @@ module _ (app : Application) (formed : IsWellFormed app) where
 
 -- what interrupts of the numbers below this one report at most
 abbrev pub room_below : Application → ℕ → ℕ
-room_below app n = 17 * n + (if ltb (length app.handlers) n then 48 else 0)
+room_below app n = 17 * n + (if ltb (length app.handlers) n then 320 else 0)
 
 pub one_more_room : (app : Application) (n : ℕ) → room_below app n + room_for app n ≡ room_below app (n + 1)
 one_more_room app n = by_test (eqb n (length app.handlers))
@@ -144,10 +144,10 @@ one_more_room app n = by_test (eqb n (length app.handlers))
     (λ l. let after : ltb (length app.handlers) (n + 1) ≡ true = grind (arith, nat_tests) in rw (t, l, after) (omega arith))
     (λ l. let after : ltb (length app.handlers) (n + 1) ≡ false = grind (arith, nat_tests) in rw (t, l, after) (omega arith)))
 
-pub all_room : (app : Application) (n : ℕ) → room_below app n ≤ 17 * n + 48
+pub all_room : (app : Application) (n : ℕ) → room_below app n ≤ 17 * n + 320
 all_room app n = by_test (ltb (length app.handlers) n) (λ t. rw t (omega arith)) (λ t. rw t (omega arith))
 
-pub most_room : (app : Application) (source : ℕ) → room_for app source ≤ 65
+pub most_room : (app : Application) (source : ℕ) → room_for app source ≤ 337
 most_room app source = by_test (is_tick app source) (λ t. rw t (omega arith)) (λ t. rw t (omega arith))
 
 -- ---- a tick that is held
@@ -156,14 +156,14 @@ module _ (k : Machine) (s : State) (on : holds_ticks s ≡ true) (t : Timeline) 
   pub tick_held : (log : List Event) → At k log s → clock.StandsFor t (increment_tick s)
       → At (record k { clock = t }) log (increment_tick s)
   unfolding increment_tick
-  tick_held log h come = rw on (with_ticks k log s h t (s.elapsed + 1) (s.held_ticks + 1) (rw on at come))
+  tick_held log h come = rw on (with_ticks k log s h t (s.elapsed + 1) (s.held_ticks + 1) (omega arith) (rw on at come))
 
   tick_held_before : (task : ℕ) (list : WaitList) → StandsBefore task list k s
       → clock.StandsBefore task (call_at s task).deadline t (increment_tick s)
       → StandsBefore task list (record k { clock = t }) (increment_tick s)
   unfolding increment_tick
   tick_held_before task list b come =
-      rw on (before_with_ticks k s task list b t (s.elapsed + 1) (s.held_ticks + 1) (rw on at come))
+      rw on (before_with_ticks k s task list b t (s.elapsed + 1) (s.held_ticks + 1) (omega arith) (rw on at come))
 
   log_held : (increment_tick s).log ≡ s.log
   unfolding increment_tick

@@ -1,8 +1,9 @@
 -- No op changes how many steps are done: only the step itself counts.
+use Rattle.model.specs.declared.op.Op.TheVariants as op
 use Rattle.model.specs.declared.op.Op.TheVariants.{Value}
 use Rattle.model.specs.Step.{act_by_value, call_with_number, notify_by_number}
 use Rattle.model.specs.Values.{number_of}
-use Rattle.soundness.proofs.Frames.{keeps-calculate}
+use Rattle.soundness.proofs.Frames.{keeps-calculate, keeps-control}
 use Rattle.soundness.proofs.Passing.{by_value}
 use Rattle.std.proofs.Common.{◌≡◌, ◌+◌, ◌-◌, ◌||◌, ℕ, zero, suc, true, false, eqb, List, ◌++◌, Option, Some, None, refl, sym}
 use Rattle.std.proofs.Common.{◌∙◌, length}
@@ -245,6 +246,7 @@ steps-act app i (DelayUntil n) s = (keeps-delay_until app i ((progress_at s i).p
 steps-act app i Yield s = (keeps-yield_now (answer app i (Some 0) s)).steps ∙ (keeps-answer app i (Some 0) s).steps
 steps-act app i Time s = (keeps-answer app i (Some (printed s.time)) s).steps
 steps-act app i (Value op) s = (keeps-calculate app i op s).steps
+steps-act app i (op.Source j what) s = (keeps-control app i j what s).steps
 steps-act app i (Mark value) s =
     let n : ℕ = number_of s.variables (progress_at s i).answer value in
     (keeps-go_to app i ((progress_at s i).op_index + 1) (progress_at s i) (write (what.Mark i n) s)).steps

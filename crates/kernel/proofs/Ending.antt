@@ -276,6 +276,24 @@ pub not_over_by : (k : Machine) (s : State) (ready : Bool) → ready ≡ is_some
 not_over_by k s ready r (Placed h) some = sym (not_over k s h (sym r ∙ some))
 not_over_by k s ready r (Placing task list b) some = sym (waits_before k s task list b)
 
+-- Who is blocked isn't Ended.
+blocked_apart : (u : Status) → is_ended u ≡ true
+    → is_some (wait_of u) || is_some (event_wait u) || can_resume u ≡ false
+blocked_apart (Ready n) e = absurd (cc)
+blocked_apart (Awake w) e = absurd (cc)
+blocked_apart (Waiting w) e = absurd (cc)
+blocked_apart (Asleep w n) e = absurd (cc)
+blocked_apart (WaitingForBits g n d) e = absurd (cc)
+blocked_apart (WaitingForNotification n d) e = absurd (cc)
+blocked_apart Suspended e = absurd (cc)
+blocked_apart Ended e = refl
+
+pub blocked_on : (ts : List Task) → list_any is_blocked ts ≡ true → list_all (λ (t : Task). is_ended t.status) ts ≡ false
+blocked_on [] e = absurd (cc)
+blocked_on (t ∷ ts) e = by_test (is_ended t.status)
+    (λ u. rw u (blocked_on ts (rw (blocked_apart t.status u) at e)))
+    (λ u. rw u refl)
+
 -- Where somebody isn't Ended, not all are.
 pub some_on : (ts : List Task) → list_all (λ (t : Task). is_ended t.status) ts ≡ false
     → (i : ℕ) × (is_ended (get_or ts i no_task).status ≡ false)

@@ -10,13 +10,17 @@ use Rattle.model.specs.declared.op.Op.TheVariants.{Work, Delay, DelayUntil, Yiel
 use Rattle.model.specs.declared.op.Op.TheVariants.{Else, EndIf, Break, Stamp, Since, Await, Do, GiveMutex, MessagesWaiting}
 use Rattle.model.specs.declared.op.Op.TheVariants.{SpacesAvailable, SetBits, ClearBits, GetBits, WaitBits, Notify}
 use Rattle.model.specs.declared.op.Op.TheVariants.{AwaitNotification, ClearNotification, Suspend, Resume, SuspendAll}
-use Rattle.model.specs.declared.op.Op.TheVariants.{ResumeAll, EnterCritical, ExitCritical, NextCommand, Obey, Value as Calculate}
+use Rattle.model.specs.declared.op.Op.TheVariants.{ResumeAll, EnterCritical, ExitCritical, NextCommand, Obey, Source}
+use Rattle.model.specs.declared.op.Op.TheVariants.{Value as Calculate}
 use Rattle.model.specs.declared.value.Value.{Value}
 use Rattle.model.specs.declared.value.ValueOp.{ValueOp}
 use Rattle.kernel.specs.Frequent.{is_frequent}
 
 pub seldom : (op : Op)
     → ((ticks : ℕ) → op ≢ Work ticks)
+    → ((ticks : ℕ) → op ≢ Delay ticks)
+    → (op ≢ Yield)
+    → (op ≢ Time)
     → ((object : ℕ) (access : Access Value) (ticks : Option ℕ) → op ≢ Await object access ticks)
     → ((object : ℕ) (access : Access Value) → op ≢ Do object access)
     → ((group : ℕ) (mask : ℕ) → op ≢ SetBits group mask)
@@ -27,45 +31,47 @@ pub seldom : (op : Op)
     → ((condition : AnswerCondition) → op ≢ If condition)
     → ((o : ValueOp) → op ≢ Calculate o)
     → is_frequent op ≡ false
-seldom (Delay ticks) works awaits does sets waits notifies notices ends asks values = refl
-seldom (DelayUntil ticks) works awaits does sets waits notifies notices ends asks values = refl
-seldom Yield works awaits does sets waits notifies notices ends asks values = refl
-seldom Time works awaits does sets waits notifies notices ends asks values = refl
-seldom (Mark value) works awaits does sets waits notifies notices ends asks values = refl
-seldom (Expect condition) works awaits does sets waits notifies notices ends asks values = refl
-seldom (Repeat turns) works awaits does sets waits notifies notices ends asks values = refl
-seldom Else works awaits does sets waits notifies notices ends asks values = refl
-seldom EndIf works awaits does sets waits notifies notices ends asks values = refl
-seldom Break works awaits does sets waits notifies notices ends asks values = refl
-seldom Stamp works awaits does sets waits notifies notices ends asks values = refl
-seldom Since works awaits does sets waits notifies notices ends asks values = refl
-seldom (GiveMutex object) works awaits does sets waits notifies notices ends asks values = refl
-seldom (MessagesWaiting object) works awaits does sets waits notifies notices ends asks values = refl
-seldom (SpacesAvailable object) works awaits does sets waits notifies notices ends asks values = refl
-seldom (ClearBits group mask) works awaits does sets waits notifies notices ends asks values = refl
-seldom (GetBits group) works awaits does sets waits notifies notices ends asks values = refl
-seldom (ClearNotification what) works awaits does sets waits notifies notices ends asks values = refl
-seldom (Suspend other) works awaits does sets waits notifies notices ends asks values = refl
-seldom (Resume other) works awaits does sets waits notifies notices ends asks values = refl
-seldom SuspendAll works awaits does sets waits notifies notices ends asks values = refl
-seldom ResumeAll works awaits does sets waits notifies notices ends asks values = refl
-seldom EnterCritical works awaits does sets waits notifies notices ends asks values = refl
-seldom ExitCritical works awaits does sets waits notifies notices ends asks values = refl
-seldom (NextCommand queue) works awaits does sets waits notifies notices ends asks values = refl
-seldom Obey works awaits does sets waits notifies notices ends asks values = refl
-seldom (Work ticks) works awaits does sets waits notifies notices ends asks values = absurd (works ticks refl)
-seldom (Await object access ticks) works awaits does sets waits notifies notices ends asks values =
+seldom (DelayUntil ticks) works delays yields times awaits does sets waits notifies notices ends asks values = refl
+seldom (Mark value) works delays yields times awaits does sets waits notifies notices ends asks values = refl
+seldom (Expect condition) works delays yields times awaits does sets waits notifies notices ends asks values = refl
+seldom (Repeat turns) works delays yields times awaits does sets waits notifies notices ends asks values = refl
+seldom Else works delays yields times awaits does sets waits notifies notices ends asks values = refl
+seldom EndIf works delays yields times awaits does sets waits notifies notices ends asks values = refl
+seldom Break works delays yields times awaits does sets waits notifies notices ends asks values = refl
+seldom Stamp works delays yields times awaits does sets waits notifies notices ends asks values = refl
+seldom Since works delays yields times awaits does sets waits notifies notices ends asks values = refl
+seldom (GiveMutex object) works delays yields times awaits does sets waits notifies notices ends asks values = refl
+seldom (MessagesWaiting object) works delays yields times awaits does sets waits notifies notices ends asks values = refl
+seldom (SpacesAvailable object) works delays yields times awaits does sets waits notifies notices ends asks values = refl
+seldom (ClearBits group mask) works delays yields times awaits does sets waits notifies notices ends asks values = refl
+seldom (GetBits group) works delays yields times awaits does sets waits notifies notices ends asks values = refl
+seldom (ClearNotification what) works delays yields times awaits does sets waits notifies notices ends asks values = refl
+seldom (Suspend other) works delays yields times awaits does sets waits notifies notices ends asks values = refl
+seldom (Resume other) works delays yields times awaits does sets waits notifies notices ends asks values = refl
+seldom SuspendAll works delays yields times awaits does sets waits notifies notices ends asks values = refl
+seldom ResumeAll works delays yields times awaits does sets waits notifies notices ends asks values = refl
+seldom EnterCritical works delays yields times awaits does sets waits notifies notices ends asks values = refl
+seldom ExitCritical works delays yields times awaits does sets waits notifies notices ends asks values = refl
+seldom (Source handler what) works delays yields times awaits does sets waits notifies notices ends asks values = refl
+seldom (NextCommand queue) works delays yields times awaits does sets waits notifies notices ends asks values = refl
+seldom Obey works delays yields times awaits does sets waits notifies notices ends asks values = refl
+seldom (Work ticks) works delays yields times awaits does sets waits notifies notices ends asks values = absurd (works ticks refl)
+seldom (Delay ticks) works delays yields times awaits does sets waits notifies notices ends asks values = absurd (delays ticks refl)
+seldom Yield works delays yields times awaits does sets waits notifies notices ends asks values = absurd (yields refl)
+seldom Time works delays yields times awaits does sets waits notifies notices ends asks values = absurd (times refl)
+seldom (Await object access ticks) works delays yields times awaits does sets waits notifies notices ends asks values =
     absurd (awaits object access ticks refl)
-seldom (Do object access) works awaits does sets waits notifies notices ends asks values =
+seldom (Do object access) works delays yields times awaits does sets waits notifies notices ends asks values =
     absurd (does object access refl)
-seldom (SetBits group mask) works awaits does sets waits notifies notices ends asks values =
+seldom (SetBits group mask) works delays yields times awaits does sets waits notifies notices ends asks values =
     absurd (sets group mask refl)
-seldom (WaitBits group condition ticks) works awaits does sets waits notifies notices ends asks values =
+seldom (WaitBits group condition ticks) works delays yields times awaits does sets waits notifies notices ends asks values =
     absurd (waits group condition ticks refl)
-seldom (Notify other action) works awaits does sets waits notifies notices ends asks values =
+seldom (Notify other action) works delays yields times awaits does sets waits notifies notices ends asks values =
     absurd (notifies other action refl)
-seldom (AwaitNotification wait ticks) works awaits does sets waits notifies notices ends asks values =
+seldom (AwaitNotification wait ticks) works delays yields times awaits does sets waits notifies notices ends asks values =
     absurd (notices wait ticks refl)
-seldom EndLoop works awaits does sets waits notifies notices ends asks values = absurd (ends refl)
-seldom (If condition) works awaits does sets waits notifies notices ends asks values = absurd (asks condition refl)
-seldom (Calculate op) works awaits does sets waits notifies notices ends asks values = absurd (values op refl)
+seldom EndLoop works delays yields times awaits does sets waits notifies notices ends asks values = absurd (ends refl)
+seldom (If condition) works delays yields times awaits does sets waits notifies notices ends asks values =
+    absurd (asks condition refl)
+seldom (Calculate op) works delays yields times awaits does sets waits notifies notices ends asks values = absurd (values op refl)

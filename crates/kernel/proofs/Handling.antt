@@ -1,4 +1,5 @@
 -- Handlers: what their ops, and one handler after another, make of a state.
+use Rattle.model.specs.declared.op.IsrOp.TheVariants as isr_op
 use Rattle.model.specs.declared.value.Value as value
 use Rattle.model.specs.declared.value.ValueOp.{ValueOp}
 use Rattle.model.specs.declared.op.IsrOp.TheVariants.{Value}
@@ -32,7 +33,8 @@ use Rattle.model.specs.Switching.{is_held, preempt, unless_held, write}
 use Rattle.soundness.proofs.Settled.{when_free, when_held, held_by_call}
 use Rattle.model.specs.Objects.{answer_to, attempt}
 use Rattle.model.specs.declared.event.End.TheVariants.{HandlerCheck}
-use Rattle.model.specs.Handlers.{isr_told, isr, isr_answer, isr_jump, is_failed, isr_each, handle, serve}
+use Rattle.model.specs.Placements.{can_come_so}
+use Rattle.model.specs.Handlers.{can_come, isr_told, isr, isr_answer, isr_jump, is_failed, isr_each, handle, come, serve}
 use Rattle.model.proofs.Chosen.{each-end}
 use Rattle.soundness.proofs.InScripts.{isr_known}
 use Rattle.machine.specs.declared.machine.Machine.{Machine}
@@ -122,6 +124,7 @@ op_fits app formed k handler i op room l e = by_op op (at (ops_of app handler) i
   by_op (Notify i a) known = tt
   by_op (Mark n) known = tt
   by_op (Value op) known = tt
+  by_op (isr_op.Source j what) known = tt
   by_op (Expect c) known = tt
   by_op (If c) known = tt
   by_op Else known = tt
@@ -311,6 +314,45 @@ one_more {A} deed P xs s i x l e h =
     let more : take (i + 1) xs ≡ take i xs ++ x ∷ [] = take_more xs i x l ∙ ap (λ (y : A). take i xs ++ y ∷ []) (sym e) in
     rw (more, each-end deed s (take i xs) x) h
 
+-- whether each can come in its turn, from this one on
+module _ (deed : ℕ → State → State) (sources : List ℕ) (i : ℕ) (s : State) where
+  pub so_from : (x : ℕ) → i < length sources → x ≡ get_or sources i x
+      → can_come_so deed (drop i sources) (for_each deed (take i sources) s)
+      ≡ can_come (for_each deed (take i sources) s) x
+      && can_come_so deed (drop (i + 1) sources) (for_each deed (take (i + 1) sources) s)
+  so_from x l is =
+      let more : take (i + 1) sources ≡ take i sources ++ x ∷ [] =
+      take_more sources i x l ∙ ap (λ (y : ℕ). take i sources ++ y ∷ []) (sym is) in
+      let t : State = for_each deed (take i sources) s in
+      ap (λ (xs : List ℕ). can_come_so deed xs t)
+      (drop_more sources i x l ∙ ap (λ (y : ℕ). y ∷ drop (i + 1) sources) (sym is))
+      ∙ ap (λ (u : State). can_come t x && can_come_so deed (drop (i + 1) sources) u)
+      (sym (ap (λ (xs : List ℕ). for_each deed xs s) more ∙ each-end deed s (take i sources) x))
+
+  -- one more is asked
+  pub so_more : (x : ℕ) → i < length sources → x ≡ get_or sources i x → (all came : Bool)
+      → came ≡ can_come (for_each deed (take i sources) s) x
+      → can_come_so deed sources s ≡ all && can_come_so deed (drop i sources) (for_each deed (take i sources) s)
+      → can_come_so deed sources s
+      ≡ (all && came) && can_come_so deed (drop (i + 1) sources) (for_each deed (take (i + 1) sources) s)
+  so_more x l is all came asked so =
+      let rest : Bool = can_come_so deed (drop (i + 1) sources) (for_each deed (take (i + 1) sources) s) in
+      so ∙ ap (λ (b : Bool). all && b) (so_from x l is ∙ ap (λ (b : Bool). b && rest) (sym asked)) ∙ together all came rest where
+        together : (a b c : Bool) → a && (b && c) ≡ (a && b) && c
+        together true b c = refl
+        together false b c = refl
+
+  -- all are
+  pub so_all : length sources ≤ i → (all : Bool)
+      → can_come_so deed sources s ≡ all && can_come_so deed (drop i sources) (for_each deed (take i sources) s)
+      → all ≡ can_come_so deed sources s
+  so_all l all so =
+      sym (so ∙ ap (λ (xs : List ℕ). all && can_come_so deed xs (for_each deed (take i sources) s)) (drop_all i sources l)
+      ∙ alone all) where
+        alone : (a : Bool) → a && true ≡ a
+        alone true = refl
+        alone false = refl
+
 pub room_after : (app : Application) (old new : Machine) → HasObjects app old → Leaves old new → HasObjects app new
 room_after app old new room h o a fit = h.objects o a (room o a fit)
 
@@ -318,20 +360,20 @@ room_after app old new room h o a fit = h.objects o a (room o a fit)
 
 module _ (app : Application) (handler : ℕ) (s : State) (mid : Machine) where
   abbrev t : State
-  t = handle app handler s
+  t = come app handler s
 
   pub served_free : (new : Machine) (log new_log : List Event)
-      → (Stands mid (handle app handler s) → is_held (handle app handler s) ≡ false) → AtAny mid log (handle app handler s)
-      → (At mid log (handle app handler s) → At new new_log (preempt (handle app handler s)))
-      → AtAny new new_log (unless_held preempt (handle app handler s))
+      → (Stands mid (come app handler s) → is_held (come app handler s) ≡ false) → AtAny mid log (come app handler s)
+      → (At mid log (come app handler s) → At new new_log (preempt (come app handler s)))
+      → AtAny new new_log (unless_held preempt (come app handler s))
   served_free new log new_log free h goes =
       let off : is_held t ≡ false = free h.stands in
       either mid log t h
       (λ p. subst (AtAny new new_log) (sym (when_free preempt t off)) (any new new_log (preempt t) (goes p)))
       (λ task list b. let on : is_held t ≡ true = held_by_call t b.held in absurd (cc))
 
-  pub served_held : (log : List Event) → (Stands mid (handle app handler s) → is_held (handle app handler s) ≡ true)
-      → AtAny mid log (handle app handler s) → AtAny mid log (unless_held preempt (handle app handler s))
+  pub served_held : (log : List Event) → (Stands mid (come app handler s) → is_held (come app handler s) ≡ true)
+      → AtAny mid log (come app handler s) → AtAny mid log (unless_held preempt (come app handler s))
   served_held log held h = let on : is_held t ≡ true = held h.stands in subst (AtAny mid log) (sym (when_held preempt t on)) h
 
 -- an element of what a function makes of each
@@ -412,6 +454,10 @@ told_resume P app s handler op_index op last i n what is told same h =
 -- The source comes if it is among these.
 abbrev pub serve_if : Application → Sources → ℕ → State → State
 serve_if app pending source s = if is_pending pending source then serve app source s else s
+
+-- The handler comes if it is among these.
+abbrev pub come_if : Application → List Bool → ℕ → State → State
+come_if app raised handler s = if get_or raised handler false then come app handler s else s
 
 -- A deed is done with one number more.
 each_more : (deed : ℕ → State → State) (a n : ℕ) (s : State)

@@ -1,5 +1,7 @@
 -- While a task holds the scheduler: what a tick that is held, the end of a script and a misuse make of the states that the kernel
 -- represents.
+use Rattle.model.specs.declared.op.Op.TheVariants.{Source}
+use Rattle.model.specs.declared.source.SourceOp.{SourceOp}
 use Rattle.model.specs.declared.value.Value as value
 use Rattle.model.specs.declared.op.Op.TheVariants.{Value}
 use Rattle.model.specs.declared.value.ValueOp.{ValueOp}
@@ -120,114 +122,118 @@ pub no_other : {X : Type 0} (op : Op) → may_switch op ≡ false → ((n : ℕ)
     → ((c : AnswerCondition) → op ≢ If c) → (op ≢ Else) → (op ≢ EndIf) → (op ≢ Break) → (op ≢ Stamp) → (op ≢ Since)
     → ((o : ℕ) → op ≢ MessagesWaiting o) → ((o : ℕ) → op ≢ SpacesAvailable o) → ((group mask : ℕ) → op ≢ ClearBits group mask)
     → ((group : ℕ) → op ≢ GetBits group) → (op ≢ SuspendAll) → (op ≢ ResumeAll) → (op ≢ EnterCritical) → (op ≢ ExitCritical)
-    → ((values : ValueOp) → op ≢ Value values) → ((what : NotificationClear) → op ≢ ClearNotification what) → X
+    → ((values : ValueOp) → op ≢ Value values) → ((what : NotificationClear) → op ≢ ClearNotification what)
+    → ((handler : ℕ) (what : SourceOp) → op ≢ Source handler what) → X
 no_other (Work n) t work time mark expect repeat end_ if_ else_ end_if break_ stamp_ since_ messages spaces clear get suspend_
-    resume_ enter exit value_ clear_notice =
+    resume_ enter exit value_ clear_notice source_ =
     absurd (work n refl)
 no_other (Delay n) t work time mark expect repeat end_ if_ else_ end_if break_ stamp_ since_ messages spaces clear get suspend_
-    resume_ enter exit value_ clear_notice =
+    resume_ enter exit value_ clear_notice source_ =
     absurd (cc)
 no_other (DelayUntil n) t work time mark expect repeat end_ if_ else_ end_if break_ stamp_ since_ messages spaces clear get suspend_
-    resume_ enter exit value_ clear_notice =
+    resume_ enter exit value_ clear_notice source_ =
     absurd (cc)
 no_other Yield t work time mark expect repeat end_ if_ else_ end_if break_ stamp_ since_ messages spaces clear get suspend_ resume_
-    enter exit value_ clear_notice =
+    enter exit value_ clear_notice source_ =
     absurd (cc)
 no_other Time t work time mark expect repeat end_ if_ else_ end_if break_ stamp_ since_ messages spaces clear get suspend_ resume_
-    enter exit value_ clear_notice =
+    enter exit value_ clear_notice source_ =
     absurd (time refl)
 no_other (Mark n) t work time mark expect repeat end_ if_ else_ end_if break_ stamp_ since_ messages spaces clear get suspend_
-    resume_ enter exit value_ clear_notice =
+    resume_ enter exit value_ clear_notice source_ =
     absurd (mark n refl)
 no_other (Expect a) t work time mark expect repeat end_ if_ else_ end_if break_ stamp_ since_ messages spaces clear get suspend_
-    resume_ enter exit value_ clear_notice =
+    resume_ enter exit value_ clear_notice source_ =
     absurd (expect a refl)
 no_other (Repeat n) t work time mark expect repeat end_ if_ else_ end_if break_ stamp_ since_ messages spaces clear get suspend_
-    resume_ enter exit value_ clear_notice =
+    resume_ enter exit value_ clear_notice source_ =
     absurd (repeat n refl)
 no_other EndLoop t work time mark expect repeat end_ if_ else_ end_if break_ stamp_ since_ messages spaces clear get suspend_
-    resume_ enter exit value_ clear_notice =
+    resume_ enter exit value_ clear_notice source_ =
     absurd (end_ refl)
 no_other (If c) t work time mark expect repeat end_ if_ else_ end_if break_ stamp_ since_ messages spaces clear get suspend_ resume_
-    enter exit value_ clear_notice =
+    enter exit value_ clear_notice source_ =
     absurd (if_ c refl)
 no_other Else t work time mark expect repeat end_ if_ else_ end_if break_ stamp_ since_ messages spaces clear get suspend_ resume_
-    enter exit value_ clear_notice =
+    enter exit value_ clear_notice source_ =
     absurd (else_ refl)
 no_other EndIf t work time mark expect repeat end_ if_ else_ end_if break_ stamp_ since_ messages spaces clear get suspend_ resume_
-    enter exit value_ clear_notice =
+    enter exit value_ clear_notice source_ =
     absurd (end_if refl)
 no_other Break t work time mark expect repeat end_ if_ else_ end_if break_ stamp_ since_ messages spaces clear get suspend_ resume_
-    enter exit value_ clear_notice =
+    enter exit value_ clear_notice source_ =
     absurd (break_ refl)
 no_other Stamp t work time mark expect repeat end_ if_ else_ end_if break_ stamp_ since_ messages spaces clear get suspend_ resume_
-    enter exit value_ clear_notice =
+    enter exit value_ clear_notice source_ =
     absurd (stamp_ refl)
 no_other Since t work time mark expect repeat end_ if_ else_ end_if break_ stamp_ since_ messages spaces clear get suspend_ resume_
-    enter exit value_ clear_notice =
+    enter exit value_ clear_notice source_ =
     absurd (since_ refl)
 no_other (Value values) t work time mark expect repeat end_ if_ else_ end_if break_ stamp_ since_ messages spaces clear get suspend_
-    resume_ enter exit value_ clear_notice =
+    resume_ enter exit value_ clear_notice source_ =
     absurd (value_ values refl)
+no_other (Source j what) t work time mark expect repeat end_ if_ else_ end_if break_ stamp_ since_ messages spaces clear get
+    suspend_ resume_ enter exit value_ clear_notice source_ =
+    absurd (source_ j what refl)
 no_other (Await o a w) t work time mark expect repeat end_ if_ else_ end_if break_ stamp_ since_ messages spaces clear get suspend_
-    resume_ enter exit value_ clear_notice =
+    resume_ enter exit value_ clear_notice source_ =
     absurd (cc)
 no_other (Do o a) t work time mark expect repeat end_ if_ else_ end_if break_ stamp_ since_ messages spaces clear get suspend_
-    resume_ enter exit value_ clear_notice =
+    resume_ enter exit value_ clear_notice source_ =
     absurd (cc)
 no_other (GiveMutex o) t work time mark expect repeat end_ if_ else_ end_if break_ stamp_ since_ messages spaces clear get suspend_
-    resume_ enter exit value_ clear_notice =
+    resume_ enter exit value_ clear_notice source_ =
     absurd (cc)
 no_other (MessagesWaiting o) t work time mark expect repeat end_ if_ else_ end_if break_ stamp_ since_ messages spaces clear get
-    suspend_ resume_ enter exit value_ clear_notice =
+    suspend_ resume_ enter exit value_ clear_notice source_ =
     absurd (messages o refl)
 no_other (SpacesAvailable o) t work time mark expect repeat end_ if_ else_ end_if break_ stamp_ since_ messages spaces clear get
-    suspend_ resume_ enter exit value_ clear_notice =
+    suspend_ resume_ enter exit value_ clear_notice source_ =
     absurd (spaces o refl)
 no_other (SetBits g m) t work time mark expect repeat end_ if_ else_ end_if break_ stamp_ since_ messages spaces clear get suspend_
-    resume_ enter exit value_ clear_notice =
+    resume_ enter exit value_ clear_notice source_ =
     absurd (cc)
 no_other (ClearBits g m) t work time mark expect repeat end_ if_ else_ end_if break_ stamp_ since_ messages spaces clear get
-    suspend_ resume_ enter exit value_ clear_notice =
+    suspend_ resume_ enter exit value_ clear_notice source_ =
     absurd (clear g m refl)
 no_other (GetBits g) t work time mark expect repeat end_ if_ else_ end_if break_ stamp_ since_ messages spaces clear get suspend_
-    resume_ enter exit value_ clear_notice =
+    resume_ enter exit value_ clear_notice source_ =
     absurd (get g refl)
 no_other (WaitBits g c w) t work time mark expect repeat end_ if_ else_ end_if break_ stamp_ since_ messages spaces clear
-    get suspend_ resume_ enter exit value_ clear_notice =
+    get suspend_ resume_ enter exit value_ clear_notice source_ =
     absurd (cc)
 no_other (Notify j a) t work time mark expect repeat end_ if_ else_ end_if break_ stamp_ since_ messages spaces clear get suspend_
-    resume_ enter exit value_ clear_notice =
+    resume_ enter exit value_ clear_notice source_ =
     absurd (cc)
 no_other (AwaitNotification w ticks) t work time mark expect repeat end_ if_ else_ end_if break_ stamp_ since_ messages spaces clear
-    get suspend_ resume_ enter exit value_ clear_notice =
+    get suspend_ resume_ enter exit value_ clear_notice source_ =
     absurd (cc)
 no_other (ClearNotification x) t work time mark expect repeat end_ if_ else_ end_if break_ stamp_ since_ messages spaces clear
-    get suspend_ resume_ enter exit value_ clear_notice =
+    get suspend_ resume_ enter exit value_ clear_notice source_ =
     absurd (clear_notice x refl)
 no_other (Suspend j) t work time mark expect repeat end_ if_ else_ end_if break_ stamp_ since_ messages spaces clear get suspend_
-    resume_ enter exit value_ clear_notice =
+    resume_ enter exit value_ clear_notice source_ =
     absurd (cc)
 no_other (Resume j) t work time mark expect repeat end_ if_ else_ end_if break_ stamp_ since_ messages spaces clear get suspend_
-    resume_ enter exit value_ clear_notice =
+    resume_ enter exit value_ clear_notice source_ =
     absurd (cc)
 no_other SuspendAll t work time mark expect repeat end_ if_ else_ end_if break_ stamp_ since_ messages spaces clear get suspend_
-    resume_ enter exit value_ clear_notice =
+    resume_ enter exit value_ clear_notice source_ =
     absurd (suspend_ refl)
 no_other ResumeAll t work time mark expect repeat end_ if_ else_ end_if break_ stamp_ since_ messages spaces clear get suspend_
-    resume_ enter exit value_ clear_notice =
+    resume_ enter exit value_ clear_notice source_ =
     absurd (resume_ refl)
 no_other EnterCritical t work time mark expect repeat end_ if_ else_ end_if break_ stamp_ since_ messages spaces clear get suspend_
-    resume_ enter exit value_ clear_notice =
+    resume_ enter exit value_ clear_notice source_ =
     absurd (enter refl)
 no_other ExitCritical t work time mark expect repeat end_ if_ else_ end_if break_ stamp_ since_ messages spaces clear get suspend_
-    resume_ enter exit value_ clear_notice =
+    resume_ enter exit value_ clear_notice source_ =
     absurd (exit refl)
 no_other (NextCommand o) t work time mark expect repeat end_ if_ else_ end_if break_ stamp_ since_ messages spaces clear get
-    suspend_ resume_ enter exit value_ clear_notice =
+    suspend_ resume_ enter exit value_ clear_notice source_ =
     absurd (cc)
 no_other Obey t work time mark expect repeat end_ if_ else_ end_if break_ stamp_ since_ messages spaces clear get suspend_ resume_
-    enter exit value_ clear_notice =
+    enter exit value_ clear_notice source_ =
     absurd (cc)
 
 -- ---- ops that begin or end a hold, where no task holds the scheduler

@@ -99,7 +99,7 @@ module _ (app : Application) (limits : Limits) (k : Machine) (task object : ℕ)
   -- and what it does in its phase is what the step does,
   pub acts_in_phase : IsPast phase → (new : Machine) (old_log new_log : Logged)
       → DoesAny 2 k old_log new new_log (await app task object access c.ticks phase)
-      → DoesAny 65 k old_log new new_log (λ s. act_current app limits s.current s)
+      → DoesAny 337 k old_log new new_log (λ s. act_current app limits s.current s)
   acts_in_phase past new old_log new_log does = acts app limits k task c.current c.op c.at new old_log new_log (by_form c.on) where
     not_before : (other : Phase) → (IsPast other → ⊥) → (progress_in k.progress task).call.phase ≡ other → ⊥
     not_before other off e = off (subst IsPast (sym c.reached ∙ e) past)
@@ -120,7 +120,7 @@ module _ (app : Application) (limits : Limits) (k : Machine) (task object : ℕ)
     }
 
     by_form : IsCallOn c.op object access c.ticks
-        → DoesAny 65 k old_log new new_log (λ s. act_unless app task (misuse s task c.op) c.op s)
+        → DoesAny 337 k old_log new new_log (λ s. act_unless app task (misuse s task c.op) c.op s)
     by_form (Awaits call variables answer e number) =
         any_by_form app k new old_log new_log task c.op (Await object call c.ticks) e c.awake (λ s. refl) refl 2 two_within
         (by_number call variables answer number)
@@ -135,7 +135,7 @@ module _ (app : Application) (limits : Limits) (k : Machine) (task object : ℕ)
       (does : (log : List Event) (s : State) → AtAny k log s → AtAny new log (await app task object access c.ticks phase s)) where
     acts_there : (log : List Event) (s : State) → AtAny k log s → AtAny new log (act_current app limits s.current s)
     acts_there log s h =
-        let told : Logged = record { before = []; told = log; room = 65 } in
+        let told : Logged = record { before = []; told = log; room = 337 } in
         let one : DoesAny 2 k told new told (await app task object access c.ticks phase) =
         record { at = does log; few = omega arith; before = refl } in
         (acts_in_phase past new told told one).at s h
@@ -167,7 +167,7 @@ module _ (app : Application) (limits : Limits) (k : Machine) (task object : ℕ)
 -- So it is where the call lets go of the scheduler.
 pub leaves : (app : Application) (limits : Limits) (k new : Machine) (task : ℕ) → IsLeaving app k task
     → CanLeave k task → (old_log new_log : Logged) → Does 1 k old_log new new_log (leave_call task)
-    → DoesAny 65 k old_log new new_log (λ s. act_current app limits s.current s)
+    → DoesAny 337 k old_log new new_log (λ s. act_current app limits s.current s)
 leaves app limits k new task l can old_log new_log does =
     acts_in_phase app limits k task l.0 l.1 Leave l.2 tt new old_log new_log
     (does_more 1 2 k new old_log new_log (leave_call task) (omega arith)

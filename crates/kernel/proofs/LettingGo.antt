@@ -1,4 +1,5 @@
 -- Where a call on an event group, or a wait for a notification, lets go of the scheduler.
+use Rattle.model.specs.declared.op.Op.TheVariants as op
 use Rattle.model.specs.declared.op.Op.TheVariants.{Value}
 use Rattle.std.proofs.Common.{◌≡◌, ◌≢◌, ℕ, true, Option, refl, subst, arith}
 use Rattle.std.specs.Option.{unwrap_or}
@@ -40,7 +41,7 @@ module _ (app : Application) (k : Machine) (task : ℕ) (op : Op) (l : IsLetting
 
     pub ends_set : (limits : Limits) (new : Machine) (old_log new_log : Logged)
         → Does 2 k old_log new new_log (λ s. preempt (answer app task (call_at s task).kept (end_hold task Start s)))
-        → DoesAny 65 k old_log new new_log (λ s. act_current app limits s.current s)
+        → DoesAny 337 k old_log new new_log (λ s. act_current app limits s.current s)
     ends_set limits new old_log new_log does =
         acts app limits k task l.current op l.at new old_log new_log
         (any_by_form app k new old_log new_log task op (SetBits group mask) is l.awake (λ s. refl) refl 2 two_within
@@ -53,7 +54,7 @@ module _ (app : Application) (k : Machine) (task : ℕ) (op : Op) (l : IsLetting
 
     pub leaves_wait : (limits : Limits) (new : Machine) (old_log new_log : Logged)
         → Does 1 k old_log new new_log (λ s. choose (end_hold task Try s))
-        → DoesAny 65 k old_log new new_log (λ s. act_current app limits s.current s)
+        → DoesAny 337 k old_log new new_log (λ s. act_current app limits s.current s)
     leaves_wait limits new old_log new_log does =
         acts app limits k task l.current op l.at new old_log new_log
         (any_by_form app k new old_log new_log task op (WaitBits group condition ticks) is l.awake (λ s. refl) refl 2 two_within
@@ -66,7 +67,7 @@ module _ (app : Application) (k : Machine) (task : ℕ) (op : Op) (l : IsLetting
 
     pub leaves_notice : (limits : Limits) (new : Machine) (old_log new_log : Logged)
         → Does 1 k old_log new new_log (λ s. choose (end_hold task Try s))
-        → DoesAny 65 k old_log new new_log (λ s. act_current app limits s.current s)
+        → DoesAny 337 k old_log new new_log (λ s. act_current app limits s.current s)
     leaves_notice limits new old_log new_log does =
         acts app limits k task l.current op l.at new old_log new_log
         (any_by_form app k new old_log new_log task op (AwaitNotification wait ticks) is l.awake (λ s. refl) refl 2 two_within
@@ -81,7 +82,7 @@ module _ (app : Application) (k : Machine) (task : ℕ) (op : Op) (l : IsLetting
     pub ends_command : (limits : Limits) (new : Machine) (old_log new_log : Logged) (c : Command)
         → c ≡ command_of (unwrap_or (progress_in k.progress task).answer 0)
         → Does 2 k old_log new new_log (end_set_by_daemon app task c.group)
-        → DoesAny 65 k old_log new new_log (λ s. act_current app limits s.current s)
+        → DoesAny 337 k old_log new new_log (λ s. act_current app limits s.current s)
     ends_command limits new old_log new_log c same does =
         acts app limits k task l.current op l.at new old_log new_log
         (any_by_form app k new old_log new_log task op Obey is l.awake (λ s. refl) refl 2 two_within
@@ -108,6 +109,7 @@ no_other Break e sets waits notices obeys = absurd (cc)
 no_other Stamp e sets waits notices obeys = absurd (cc)
 no_other Since e sets waits notices obeys = absurd (cc)
 no_other (Value op) e sets waits notices obeys = absurd (cc)
+no_other (op.Source j what) e sets waits notices obeys = absurd (cc)
 no_other (Await o a w) e sets waits notices obeys = absurd (cc)
 no_other (Do o a) e sets waits notices obeys = absurd (cc)
 no_other (GiveMutex o) e sets waits notices obeys = absurd (cc)

@@ -7,6 +7,7 @@ pub mod Running
 pub mod Injecting
 pub mod Ticking
 pub mod Handling
+pub mod Raised
 pub mod Branching
 pub mod Planned
 pub mod Held

@@ -48,8 +48,8 @@ module _ (app : Application) (limits : Limits) (k : Machine) (task : ℕ) (runs 
 
   pub acts : (op : Op) → op_at app task (progress_in k.progress task).op_index ≡ Some op
       → (new : Machine) (old_log new_log : Logged)
-      → DoesAny 65 k old_log new new_log (λ s. act_unless app task (misuse s task op) op s)
-      → DoesAny 65 k old_log new new_log (λ s. act_current app limits s.current s)
+      → DoesAny 337 k old_log new new_log (λ s. act_unless app task (misuse s task op) op s)
+      → DoesAny 337 k old_log new new_log (λ s. act_current app limits s.current s)
   acts op at new old_log new_log does = record {
     at = λ s h. subst (AtAny new new_log.told) (sym (its_op s h.stands (Some op) at)) (does.at s h);
     few = does.few;
@@ -58,7 +58,7 @@ module _ (app : Application) (limits : Limits) (k : Machine) (task : ℕ) (runs 
 
   -- it has none
   pub rests : op_at app task (progress_in k.progress task).op_index ≡ None
-      → (log : Logged) → DoesAny 65 k log k log (λ s. act_current app limits s.current s)
+      → (log : Logged) → DoesAny 337 k log k log (λ s. act_current app limits s.current s)
   rests at log = record {
     at = λ s h. subst (AtAny k log.told) (sym (its_op s h.stands None at)) h;
     few = omega arith;

@@ -32,7 +32,8 @@ module _ (app : Application) (k : Machine) (task : ℕ) (command : Command) (t :
   can_begin can = subst (CanSetBits k task) t.reached can
 
   pub begins : (limits : Limits) (new : Machine) (log : Logged) → CanDecide k task
-      → Moves k new (begin_set task command.group command.mask) → DoesAny 65 k log new log (λ s. act_current app limits s.current s)
+      → Moves k new (begin_set task command.group command.mask)
+      → DoesAny 337 k log new log (λ s. act_current app limits s.current s)
   begins limits new log can moves =
       acts app limits k task t.current Obey t.at new log log
       (any_by_form app k new log log task Obey Obey refl t.awake (λ s. refl) refl 2 two_within
@@ -59,7 +60,7 @@ module _ (app : Application) (k : Machine) (task : ℕ) (command : Command) (t :
       (moves : Moves k new (begin_set task command.group command.mask)) (held : new.sched.depth ≡ 1)
       (calm : NonePends k) (s : State) (h : Stands k s) where
     does : (s : State) → AtAny k [] s → AtAny new [] (act_current app limits s.current s)
-    does = (begins limits new (record { before = []; told = []; room = 65 }) can moves).at
+    does = (begins limits new (record { before = []; told = []; room = 337 }) can moves).at
 
     some_hold : 0 < new.sched.depth
     some_hold = omega (arith, held)

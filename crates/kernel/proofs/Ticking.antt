@@ -1,6 +1,6 @@
 -- Steps in which nothing happens but that a tick passes.
 use Rattle.std.proofs.Common.{◌≡◌, ◌≢◌, ◌<◌, ◌≤◌, ◌+◌, ◌^◌, ◌%◌, ℕ, zero, suc, Bool, true, false, not, ◌&&◌, ◌||◌, eqb, leb, ltb}
-use Rattle.std.proofs.Common.{List, [], ◌∷◌, length, map, get_or, Option, Some, None, refl, ap, sym, subst, ◌∙◌, arith}
+use Rattle.std.proofs.Common.{List, [], ◌∷◌, length, map, get_or, Option, Some, None, inl, inr, refl, ap, sym, subst, ◌∙◌, arith}
 use Rattle.std.proofs.Common.{get_or-set_same}
 use Rattle.std.specs.Prelude.{◌==◌, if◌then◌else◌}
 use Rattle.std.specs.List.{filter, list_all, list_any}
@@ -14,13 +14,13 @@ use Rattle.model.specs.declared.op.Op.{Op}
 use Rattle.model.specs.declared.op.Op.TheVariants.{Work}
 use Rattle.model.specs.Application.{Application, Definition, Interrupt, Limits, is_any_awaited, op_at, interrupts_at}
 use Rattle.model.specs.Coming.{AreComing}
-use Rattle.model.specs.State.{State, Task, Progress, no_progress, progress_at}
+use Rattle.model.specs.State.{State, Task, Progress, for_each, no_progress, progress_at}
 use Rattle.model.specs.Switching.{holds_ticks, is_held_by_task, is_ready, slice, settle, unless_held}
 use Rattle.model.specs.Time.{increment_tick}
 use Rattle.model.specs.Ops.{use_up}
 use Rattle.model.specs.Handlers.{interrupt, tick_interrupt}
 use Rattle.model.specs.Step.{is_ended, act_if, act_current, before_step, step}
-use Rattle.model.specs.Run.{are_all_ended, end_of, is_interrupt_to_come, is_stuck}
+use Rattle.model.specs.Run.{are_all_ended, end_of, is_interrupt_to_come, is_stuck, will_wake}
 use Rattle.model.proofs.Sorting.{by_test}
 use Rattle.model.proofs.Ticks.{filter-taken}
 use Rattle.soundness.proofs.Settled.{when_free}
@@ -32,6 +32,9 @@ use Rattle.sched.specs.Schedule.{is_steady, lined_up, is_ready as is_ready_in}
 use Rattle.sched.proofs.Standing as on_sched
 use Rattle.clock.specs.Timeline.{Timeline, Advances}
 use Rattle.clock.proofs.Standing.{due_next, stands_advanced}
+use Rattle.model.specs.Handlers as handlers
+use Rattle.machine.specs.Arrivals.{arrival_in}
+use Rattle.kernel.proofs.Raised.{AreNoneAt, interrupt_alone, nobody_now, none_at, raised_comes}
 use Rattle.machine.specs.declared.machine.Machine.{Machine}
 use Rattle.machine.specs.StandsFor.{StandsFor, Stands, At, AtAny, progress_in, with_progress}
 use Rattle.machine.specs.StandsFor.Stands.{Placed, Placing}
@@ -39,7 +42,9 @@ use Rattle.kernel.specs.Quiet.{IsQuiet, Passes, WorksOn, used_by}
 use Rattle.ops.proofs.Working.{used_more}
 use Rattle.machine.proofs.Acting.{within}
 use Rattle.machine.proofs.Either.{any, current_is, elapsed_is, steps_are, stopped_is, not_by_task}
-use Rattle.kernel.proofs.Ending.{all_meant, begun, ends_not, is_everybody_ended, not_over_by, not_passed, on_by, stepped, stuck_by}
+use Rattle.kernel.proofs.Ending.{all_meant, begun, blocked_on, ends_not, is_everybody_ended, not_over_by, not_passed, on_by}
+use Rattle.kernel.proofs.Ending.{stepped}
+use Rattle.kernel.proofs.Ending.{stuck_by}
 use Rattle.kernel.proofs.Left.{any_left}
 use Rattle.machine.proofs.Switches.{settled_either, settled_idle, settled_on, unheld_by}
 use Rattle.machine.proofs.Waking.{groups-jumped, objects-jumped, sched-jumped, ticks_not_held, woken}
@@ -133,14 +138,17 @@ module _ (app : Application) (coming : List Interrupt) (are : AreComing app.inte
   pub none_of_these : interrupts_at app tick ≡ [] → filter (λ (i : Interrupt). i.tick == tick) coming ≡ []
   none_of_these none = are.same tick ∙ none_mapped (filter (λ (i : Interrupt). i.tick == tick) app.interrupts) none
 
-pub uninterrupted : (app : Application) (s : State) → interrupts_at app s.elapsed ≡ [] → interrupt app s ≡ s
-unfolding interrupt
-uninterrupted app s none = rw none refl
+pub uninterrupted : (app : Application) (s : State) → interrupts_at app s.elapsed ≡ [] → AreNoneAt s.elapsed s
+    → interrupt app s ≡ s
+uninterrupted app s none unraised =
+    interrupt_alone app s (nobody_now s unraised) ∙ ap (λ (those : List ℕ). for_each (handlers.come app) those s) none
 
 -- ---- a tick
 
 module _ (app : Application) (k : Machine) (z : k.sched.depth ≡ 0) (calm : k.sched.pending ≡ []) (steady : is_steady k.sched ≡ true)
-    (none : interrupts_at app (k.clock.age + k.clock.held + 1) ≡ []) (clock : Timeline) (a : Advances k.clock clock []) where
+    (none : interrupts_at app (k.clock.age + k.clock.held + 1) ≡ [])
+    (unraised : (source : ℕ) → (arrival_in k.sources.arrivals source).raised ≢ Some (k.clock.age + k.clock.held + 1))
+    (clock : Timeline) (a : Advances k.clock clock []) where
   module _ (log : List Event) (s : State) (h : At k log s) where
     free : holds_ticks s ≡ false
     free = ticks_not_held k.sched s h.stands.sched z
@@ -157,10 +165,15 @@ module _ (app : Application) (k : Machine) (z : k.sched.depth ≡ 0) (calm : k.s
     alone : interrupts_at app (increment_tick s).elapsed ≡ []
     alone = rw elapsed_next none
 
+    none_raised : AreNoneAt (increment_tick s).elapsed (increment_tick s)
+    none_raised =
+        none_at (record k { clock = clock }) (increment_tick s) (Placed come.stands) (increment_tick s).elapsed
+        (λ source. rw elapsed_next (unraised source))
+
     ticked_is : tick_interrupt app s ≡ increment_tick s
     unfolding tick_interrupt
     ticked_is =
-        ap (unless_held slice) (uninterrupted app (increment_tick s) alone)
+        ap (unless_held slice) (uninterrupted app (increment_tick s) alone none_raised)
         ∙ when_free slice (increment_tick s) (unheld_by k.sched (increment_tick s) come.stands.sched z)
         ∙ on_sched.slice_none k.sched (increment_tick s) calm come.stands.sched steady
 
@@ -192,7 +205,8 @@ module _ (app : Application) (limits : Limits) (count : ℕ) (k : Machine)
       let t : State = tick_interrupt app r in
       let at : At (record k { clock = clock }) [] t =
       tick_passed app k q.depth q.pending q.steady
-      (q.interrupts (k.clock.age + k.clock.held + 1) (omega arith) (omega arith)) clock a [] r h in
+      (q.interrupts (k.clock.age + k.clock.held + 1) (omega arith) (omega arith))
+      (λ source. q.raised source (k.clock.age + k.clock.held + 1) (omega arith) (omega arith)) clock a [] r h in
       let still : t.current ≡ None = sym at.stands.sched.current ∙ e in
       let end : At (record k { clock = clock }) [] (unless_held settle t) =
       settled_either (record k { clock = clock }) [] t at (settled_idle (record k { clock = clock }) [] t at still) in
@@ -208,7 +222,9 @@ module _ (app : Application) (limits : Limits) (count : ℕ) (k : Machine)
       let t : State = tick_interrupt app (use_up app task n r) in
       let at : At (record mid { clock = clock }) [] t =
       tick_passed app mid q.depth q.pending q.steady
-      (q.interrupts (k.clock.age + k.clock.held + 1) (omega arith) (omega arith)) clock a [] (use_up app task n r) on in
+      (q.interrupts (k.clock.age + k.clock.held + 1) (omega arith) (omega arith))
+      (λ source. q.raised source (k.clock.age + k.clock.held + 1) (omega arith) (omega arith)) clock a []
+      (use_up app task n r) on in
       let still : t.current ≡ Some task = sym at.stands.sched.current ∙ e in
       let ready : is_ready t task ≡ true = sym (on_sched.ready_same k.sched t task at.stands.sched) ∙ w.0 in
       let end : At (record mid { clock = clock }) [] (unless_held settle t) =
@@ -256,9 +272,16 @@ module _ (app : Application) (limits : Limits) (count : ℕ) (k : Machine)
       let held = a.held in
       q.interrupts tick (omega arith) (omega arith)
 
+  raised_on : (source tick : ℕ) → clock.age + clock.held < tick → tick ≤ clock.age + clock.held + count
+      → (arrival_in k.sources.arrivals source).raised ≢ Some tick
+  raised_on source tick from upto =
+      let age = a.age in
+      let held = a.held in
+      q.raised source tick (omega arith) (omega arith)
+
   still_works : (s : State) → StandsFor k s → (o : Option ℕ) → k.sched.current ≡ o → WorksOn app (suc count) k o
       → WorksOn app count (record k { clock = clock; progress = used_by o k.progress; steps = k.steps + 1 }) o
-  still_works s h None e w = ((λ none. w.0 (a.delayed ∙ none)), w.1)
+  still_works s h None e w = (elim w.0 [ inl sleeps ↦ inl (λ none. sleeps (a.delayed ∙ none)) | inr raised ↦ inr raised ], w.1)
   still_works s h (Some task) e w =
       let p : Progress = progress_in k.progress task in
       let l : task < length s.tasks = within k s.log s (record { stands = h; log = refl }) task e in
@@ -286,6 +309,7 @@ module _ (app : Application) (limits : Limits) (count : ℕ) (k : Machine)
         asleep = asleep_on;
         turn = turn_on;
         interrupts = interrupts_on;
+        raised = raised_on;
         ticks = omega arith;
         steps = omega arith;
         works = still_works s (placed_by k s q.depth h) k.sched.current refl q.works;
@@ -313,6 +337,11 @@ listed_some : (task : ℕ) (es : List (ℕ × ℕ)) → has_node task es ≡ tru
 listed_some task [] t = absurd (cc)
 listed_some task (e ∷ es) t = refl
 
+never : (a b : Bool) → a && b && false ≡ false
+never true true = refl
+never true false = refl
+never false b = refl
+
 and_none : (a : Bool) → not a && false ≡ false
 and_none true = refl
 and_none false = refl
@@ -323,7 +352,12 @@ module _ (app : Application) (limits : Limits) (count : ℕ) (k : Machine)
   ready = is_some (first_of (lined_up k.sched))
 
   somebody_left : (o : Option ℕ) → WorksOn app (suc count) k o → is_everybody_ended s ≡ false
-  somebody_left None w = on_by k s ready false refl ((λ t. absurd (cc)), (λ none. absurd (w.0 none))) h (and_none ready)
+  somebody_left None w = elim w.0 [
+    | inl sleeps ↦ on_by k s ready false refl ((λ t. absurd (cc)), (λ none. absurd (sleeps none))) h (and_none ready)
+    | inr raised ↦
+        let p : StandsFor k s = placed_by k s q.depth h in
+        blocked_on s.tasks (raised.1 s p.rest.objects p.rest.groups p.sched)
+  ]
   somebody_left (Some task) w = not_over_by k s ready refl h (listed_some task (lined_up k.sched) w.0)
 
   not_ended : (o : Option ℕ) → WorksOn app (suc count) k o → are_all_ended app s ≡ false
@@ -336,9 +370,12 @@ module _ (app : Application) (limits : Limits) (count : ℕ) (k : Machine)
       ∙ somebody_left o w))
 
   not_stuck : (o : Option ℕ) → k.sched.current ≡ o → WorksOn app (suc count) k o → is_stuck app s ≡ false
-  not_stuck None e w =
-      sym (stuck_by app k s true false (is_interrupt_to_come app s) h
-      (ap is_none (sym e)) ((λ t. absurd (cc)), (λ none. absurd (w.0 none))) refl)
+  not_stuck None e w = elim w.0 [
+    | inl sleeps ↦
+        sym (stuck_by app k s true false (is_interrupt_to_come app s) h
+        (ap is_none (sym e)) ((λ t. absurd (cc)), (λ none. absurd (sleeps none))) refl)
+    | inr raised ↦ rw (raised_comes k s h app raised.0) (never (is_none s.current) (not (will_wake s)))
+  ]
   not_stuck (Some task) e w = rw (sym (current_is k s h) ∙ e) refl
 
   pub quiet_on : end_of app limits s ≡ None
@@ -385,6 +422,7 @@ quiet_fewer app limits count few k le q =
           k.clock.delayed_list (λ e l. omega (arith, l)) q.asleep;
       turn = omega arith;
       interrupts = λ tick from upto. q.interrupts tick from (omega arith);
+      raised = λ source tick from upto. q.raised source tick from (omega arith);
       ticks = omega arith;
       steps = omega arith;
       works = by_current k.sched.current q.works;

@@ -47,7 +47,7 @@ most_elapsed = 281474976710676
 -- how many events an interrupt that comes reports at most: a handler one for each of its ops, and the tick those of the handlers of
 -- four base interrupts; and each one for a switch
 abbrev pub room_for : Application → ℕ → ℕ
-room_for app source = if is_tick app source then 65 else 17
+room_for app source = if is_tick app source then 337 else 17
 
 -- The kernel represents a sound state, whichever interrupts have led to it, which isn't at an end under these limits.
 pub record CanStep (app : Application) (limits : Limits) (k : Machine) : Type 0 where

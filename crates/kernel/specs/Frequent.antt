@@ -1,11 +1,15 @@
 -- The ops that most steps do.
 use Rattle.std.specs.Prelude.{Bool, true, false}
 use Rattle.model.specs.declared.op.Op.{Op}
-use Rattle.model.specs.declared.op.Op.TheVariants.{Work, Await, Do, SetBits, WaitBits, Notify, AwaitNotification, End, If, Value}
+use Rattle.model.specs.declared.op.Op.TheVariants.{Work, Delay, Yield, Time, Await, Do, SetBits, WaitBits, Notify}
+use Rattle.model.specs.declared.op.Op.TheVariants.{AwaitNotification, End, If, Value}
 
 -- an op whose code is part of the step itself
 abbrev pub is_frequent : Op → Bool
 is_frequent (Work ticks) = true
+is_frequent (Delay ticks) = true
+is_frequent Yield = true
+is_frequent Time = true
 is_frequent (Await object access ticks) = true
 is_frequent (Do object access) = true
 is_frequent (SetBits group mask) = true

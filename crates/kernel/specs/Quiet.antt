@@ -1,5 +1,5 @@
 -- Steps in which nothing happens but that a tick passes.
-use Rattle.std.specs.Prelude.{◌≡◌, ◌≢◌, ◌<◌, ◌≤◌, ℕ, ◌+◌, ◌^◌, ◌%◌, true, false, List, [], Option, Some, None, slice_set}
+use Rattle.std.specs.Prelude.{◌≡◌, ◌≢◌, ◌⊎◌, ◌<◌, ◌≤◌, ℕ, ◌+◌, ◌^◌, ◌%◌, true, false, List, [], Option, Some, None, slice_set}
 use Rattle.model.specs.declared.op.Op.TheVariants.{Work}
 use Rattle.std.specs.List.{list_any}
 use Rattle.model.specs.Application.{Application, Definition, Limits, interrupts_at, is_any_awaited, op_at}
@@ -8,21 +8,26 @@ use Rattle.lists.specs.Lists.{Each}
 use Rattle.sched.specs.Schedule.{is_ready, is_steady}
 use Rattle.clock.specs.Timeline.{Advances}
 use Rattle.machine.specs.declared.machine.Machine.{Machine}
+use Rattle.machine.specs.Arrivals.{arrival_in, soonest}
 use Rattle.machine.specs.StandsFor.{progress_in}
 use Rattle.machine.specs.Can.{NonePends}
+use Rattle.kernel.specs.Blocked.{IsSomebodyBlocked}
 use Rattle.kernel.specs.Left.{IsAnyLeft}
 
--- The running task has more than this much of a `work` before it; or idle runs, which lets one tick pass in a
--- step, and somebody sleeps.
+-- Idle goes on: somebody sleeps; or a handler is raised, and some task waits or is suspended.
+abbrev pub IdleGoesOn : Machine → Type 0
+IdleGoesOn k = (k.clock.delayed_list ≢ []) ⊎ ((soonest k.sources.arrivals ≢ None) × IsSomebodyBlocked k)
+
+-- The running task has more than this much of a `work` before it; or idle goes on, and lets one tick pass in a step.
 abbrev pub WorksOn : Application → ℕ → Machine → Option ℕ → Type 0
-WorksOn app count k None = (k.clock.delayed_list ≢ []) × (app.tickless ≡ false)
+WorksOn app count k None = IdleGoesOn k × (app.tickless ≡ false)
 WorksOn app count k (Some task) =
     (is_ready k.sched task ≡ true) × ((progress_in k.progress task).used + count < 2 ^ 32)
     × (ticks : ℕ) × (op_at app task (progress_in k.progress task).op_index ≡ Some (Work ticks))
     × ((progress_in k.progress task).used + count < ticks)
 
 -- This many steps only let a tick pass, each before the end under these limits: nobody's sleep ends, the tick that is shown
--- doesn't become 0, no base interrupt comes, and nothing switches.
+-- doesn't become 0, no base interrupt and no raised handler comes, and nothing switches.
 pub record IsQuiet (app : Application) (limits : Limits) (count : ℕ) (k : Machine) : Type 0 where
   pub stopped : k.stopped ≡ None
   pub none : NonePends k
@@ -33,6 +38,8 @@ pub record IsQuiet (app : Application) (limits : Limits) (count : ℕ) (k : Mach
   pub turn : k.clock.now % 2 ^ 32 + count < 2 ^ 32
   pub interrupts : (tick : ℕ) → k.clock.age + k.clock.held < tick
       → tick ≤ k.clock.age + k.clock.held + count → interrupts_at app tick ≡ []
+  pub raised : (source tick : ℕ) → k.clock.age + k.clock.held < tick
+      → tick ≤ k.clock.age + k.clock.held + count → (arrival_in k.sources.arrivals source).raised ≢ Some tick
   pub ticks : k.clock.age + k.clock.held + count ≤ limits.ticks
   pub steps : k.steps + count ≤ limits.steps
   pub works : WorksOn app count k k.sched.current

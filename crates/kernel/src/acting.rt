@@ -1,6 +1,6 @@
 //! What the running task's op does.
 ghost use Rattle.std.specs.Prelude.{◌≡◌, ◌≢◌, ◌<◌, ◌≤◌, true, false};
-ghost use Rattle.model.specs.Step.{act_unless, misuse, act};
+ghost use Rattle.model.specs.Step.{act_unless, misuse, act, act_by_value};
 ghost use Rattle.machine.specs.StandsFor.{DoesAny, Does, IsPlaced};
 ghost use Rattle.kernel.specs.declared.acting.Following.TheVariants as following;
 ghost use Rattle.kernel.specs.InScript.{is_amid, may_stay_amid};
@@ -15,7 +15,7 @@ ghost use Rattle.ops.specs.Can.{Can};
 use crate::handlers::tick_interrupt;
 use crate::suspended::{call_enter_critical, call_suspend_all};
 use machine::{Log, Machine};
-use model::{App, Misuse, Op, TaskId};
+use model::{Access, App, Misuse, ObjectId, Op, TaskId, Value};
 use ops::calls::go_on_by_value;
 use ops::daemon::{next_command, obey};
 use ops::event_groups::{BitsWait, clear_bits, get_bits, set_bits, wait_bits};
@@ -23,6 +23,7 @@ use ops::mutexes::give_mutex;
 use ops::notifications::{await_notification, call_notify, clear_notification};
 use ops::queues::{do_by_value, messages_waiting, spaces_available};
 use ops::script::{branch, close_turn, end_if, expect, leave_loop, mark, open_loop, skip_branch};
+use ops::sources::control;
 use ops::suspension::{call_resume, call_suspend};
 use ops::time::{call_yield, delay, delay_until, since, stamp, time, use_up};
 use ops::values::calculate;
@@ -144,9 +145,9 @@ fn work<L: Log>(
     ticks: u32,
     log: &mut L,
 ) -> Following
-    requires room { 65 ≤ (L.logged log.old).room }
+    requires room { 337 ≤ (L.logged log.old).room }
     requires can { Can app.now machine.old task (op.Work ticks) }
-    ensures does { Does 65 machine.old (L.logged log.old) machine.new (L.logged log.new)
+    ensures does { Does 337 machine.old (L.logged log.old) machine.new (L.logged log.new)
         (act app.now task (op.Work ticks)) }
     ensures amid { is_amid result ≡ false }
     ensures letting { result ≢ following.LettingGo }
@@ -156,6 +157,25 @@ fn work<L: Log>(
     use_up(machine, app, task, ticks);
     tick_interrupt(machine, app, log);
     Following::steps_if(left > 2)
+}
+
+/// A call that doesn't wait.
+// What it does is lent, so that its copy has a place on the stack only here, which no other step clears.
+#[inline(always)]
+fn do_at_once<L: Log>(
+    machine: &mut Machine,
+    app: &App,
+    task: TaskId,
+    object: ObjectId,
+    access: &Access<Value>,
+    log: &mut L,
+)
+    requires room { 2 ≤ (L.logged log.old).room }
+    requires can { Can app.now machine.old task (op.Do object access.now) }
+    ensures { Does 2 machine.old (L.logged log.old) machine.new (L.logged log.new)
+        (act_by_value app.now task (op.Do object access.now)) }
+{
+    do_by_value(machine, app, task, object, *access, log);
 }
 
 /// What the running task's op does, if no task holds the scheduler; a misuse ends the run, and does nothing else. It returns what
@@ -168,10 +188,10 @@ pub(crate) fn act<L: Log>(
     op: &Op,
     log: &mut L,
 ) -> Following
-    requires room { 65 ≤ (L.logged log.old).room }
+    requires room { 337 ≤ (L.logged log.old).room }
     requires can { CanOp app.now machine.old task op.now }
     requires awake { machine.old.sched.suspensions ≡ 0 }
-    ensures does { DoesAny 65 machine.old (L.logged log.old) machine.new (L.logged log.new)
+    ensures does { DoesAny 337 machine.old (L.logged log.old) machine.new (L.logged log.new)
         (λ s. act_unless app.now task (misuse s task op.now) op.now s) }
     ensures amid { is_amid result ≡ true → IsPlaced machine.old machine.new task }
     ensures runs { is_amid result ≡ true → Runs machine.old task }
@@ -197,13 +217,16 @@ pub(crate) fn act<L: Log>(
         Op::End => return Following::op_if(close_turn(machine, app, task)),
         Op::If(condition) => return Following::op_if(branch(machine, app, task, condition)),
         Op::Value(ref op) => return Following::answered_if(calculate(machine, app, task, op, log)),
-        Op::Do(object, access) => do_by_value(machine, app, task, object, access, log),
+        Op::Do(object, ref access) => do_at_once(machine, app, task, object, access, log),
         Op::Notify(other, ref action) => call_notify(machine, app, task, other, action, log),
         Op::AwaitNotification(ref wait, ref ticks) => {
             return Following::letting_go_if(await_notification(
                 machine, app, task, wait, *ticks, log,
             ));
         }
+        Op::Delay(ticks) => delay(machine, app, task, ticks, log),
+        Op::Yield => call_yield(machine, app, task, log),
+        Op::Time => return Following::answered_if(time(machine, app, task, log)),
         _ => return act_seldom(machine, app, task, op, log),
     }
     Following::Nothing
@@ -218,11 +241,11 @@ fn act_seldom<L: Log>(
     op: &Op,
     log: &mut L,
 ) -> Following
-    requires room { 65 ≤ (L.logged log.old).room }
+    requires room { 337 ≤ (L.logged log.old).room }
     requires can { CanOp app.now machine.old task op.now }
     requires seldom { is_frequent op.now ≡ false }
     requires awake { machine.old.sched.suspensions ≡ 0 }
-    ensures does { DoesAny 65 machine.old (L.logged log.old) machine.new (L.logged log.new)
+    ensures does { DoesAny 337 machine.old (L.logged log.old) machine.new (L.logged log.new)
         (λ s. act_unless app.now task (misuse s task op.now) op.now s) }
     ensures amid { is_amid result ≡ true → IsPlaced machine.old machine.new task }
     ensures runs { is_amid result ≡ true → Runs machine.old task }
@@ -237,10 +260,7 @@ fn act_seldom<L: Log>(
         Op::Else => return Following::op_if(skip_branch(machine, app, task)),
         Op::EndIf => return Following::op_if(end_if(machine, app, task)),
         Op::Break => return Following::op_if(leave_loop(machine, app, task)),
-        Op::Delay(ticks) => delay(machine, app, task, ticks, log),
         Op::DelayUntil(ticks) => delay_until(machine, app, task, ticks, log),
-        Op::Yield => call_yield(machine, app, task, log),
-        Op::Time => return Following::answered_if(time(machine, app, task, log)),
         Op::Mark(value) => return Following::answered_if(mark(machine, app, task, value, log)),
         Op::Stamp => return Following::op_if(stamp(machine, app, task)),
         Op::Since => return Following::answered_if(since(machine, app, task, log)),
@@ -265,11 +285,15 @@ fn act_seldom<L: Log>(
         Op::ResumeAll => machine.misuse(task, Misuse::NotSuspended),
         Op::EnterCritical => call_enter_critical(machine, app, task),
         Op::ExitCritical => machine.misuse(task, Misuse::NotCritical),
+        Op::Source(handler, op) => control(machine, app, task, handler, op),
         Op::NextCommand(queue) => {
             return Following::command_if(next_command(machine, app, task, queue, log));
         }
         Op::Obey => obey(machine, app, task, log),
         Op::Work(_)
+        | Op::Delay(_)
+        | Op::Yield
+        | Op::Time
         | Op::Await(_, _, _)
         | Op::Do(_, _)
         | Op::SetBits(_, _)

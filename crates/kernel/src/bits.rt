@@ -20,10 +20,10 @@ use ops::event_groups::{end_set, leave_bits_wait};
 // A wait is looked for first: most of them are waits.
 #[inline(always)]
 fn let_go<L: Log>(machine: &mut Machine, app: &App, task: TaskId, op: &Op, log: &mut L)
-    requires room { 65 ≤ (L.logged log.old).room }
+    requires room { 337 ≤ (L.logged log.old).room }
     requires can { CanOp app.now machine.old task op.now }
     requires going { IsLettingGo app.now machine.old task op.now }
-    ensures { (limits : Limits) → DoesAny 65 machine.old (L.logged log.old) machine.new (L.logged log.new)
+    ensures { (limits : Limits) → DoesAny 337 machine.old (L.logged log.old) machine.new (L.logged log.new)
         (λ s. act_current app.now limits s.current s) }
 {
     if let Op::WaitBits(_, _, _) = *op {
@@ -50,7 +50,7 @@ fn step_letting_go<L: Log>(machine: &mut Machine, app: &App, task: TaskId, op: &
     requires none { NonePends machine.old }
     requires letting { IsLettingGo app.now machine.old task op.now }
     requires begun { (L.logged log.old).told ≡ [] }
-    requires room { 128 ≤ (L.logged log.old).room }
+    requires room { 512 ≤ (L.logged log.old).room }
     ensures stands { (limits : Limits) (s : State) → Stands machine.old s → Stands machine.new (step app.now limits [] s) }
     ensures told { (limits : Limits) (s : State) → Stands machine.old s
         → (L.logged log.new).told ≡ (step app.now limits [] s).log }
@@ -78,7 +78,7 @@ pub(crate) fn pass_held(
     requires soon { kernel.old.steps < until }
     requires letting { IsLettingGo app.now kernel.old task op.now }
     requires begun { trail.old.told ≡ [] }
-    requires room { 128 ≤ trail.old.room }
+    requires room { 512 ≤ trail.old.room }
     ensures along { GoesFurther app.now limits.now until kernel.old kernel.new (all_of trail.old) (all_of trail.new) }
     ensures one { kernel.new.steps ≡ kernel.old.steps + 1 }
 {

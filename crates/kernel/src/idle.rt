@@ -2,7 +2,7 @@
 ghost use Rattle.std.specs.Prelude.{◌≡◌, ◌<◌, ◌≤◌, ◌+◌, ◌^◌, [], None, fold, max, min};
 ghost use Rattle.lists.specs.Lists.{Each};
 ghost use Rattle.model.specs.State.{State};
-ghost use Rattle.model.specs.Handlers.{idle, interrupt, ticks_ahead, ticks_to_interrupt, ticks_to_wake};
+ghost use Rattle.model.specs.Handlers.{idle, interrupt, ticks_ahead, ticks_to_interrupt, ticks_to_raised, ticks_to_wake};
 ghost use Rattle.model.specs.Switching.{slice, unless_held};
 ghost use Rattle.model.specs.Time.{jump};
 ghost use Rattle.machine.specs.StandsFor.{Does, Moves, StandsFor};
@@ -41,7 +41,19 @@ fn until_interrupt(machine: &Machine, app: &App, most: u64) -> u64
     most.min(before as u64 + 1)
 }
 
-/// The ticks until the next thing happens: somebody wakes, a base interrupt comes, or the limit is reached. One at least.
+/// The ticks until the first raised handler comes; no more than these.
+fn until_raised(machine: &Machine, most: u64) -> u64
+    ensures least { (s : State) → StandsFor machine.now s → result ≡ fold min most (ticks_to_raised s) }
+    ensures less { result ≤ most }
+{
+    match machine.sources.first_raised() {
+        None => most,
+        Some(tick) => most.min(tick.saturating_sub(machine.clock.elapsed())),
+    }
+}
+
+/// The ticks until the next thing happens: somebody wakes, a base interrupt or a raised handler comes, or the limit is reached. One at
+/// least.
 fn ticks_ahead(machine: &Machine, app: &App, limits: &Limits) -> u64
     ensures ahead { (s : State) → StandsFor machine.now s → result ≡ ticks_ahead app.now limits.now s }
     ensures soon { Each (λ e. machine.now.clock.now + result ≤ e.1) machine.now.clock.delayed_list }
@@ -49,7 +61,8 @@ fn ticks_ahead(machine: &Machine, app: &App, limits: &Limits) -> u64
     ensures unslept { 2 ^ 32 ≤ result → machine.now.clock.delayed_list ≡ [] }
 {
     let left = limits.ticks.saturating_sub(machine.clock.elapsed());
-    until_interrupt(machine, app, until_wake(machine, left)).max(1)
+    let before = until_interrupt(machine, app, until_wake(machine, left));
+    until_raised(machine, before).max(1)
 }
 
 /// All ticks pass at once up to the next thing to happen.
@@ -71,10 +84,10 @@ fn pass_to_next(machine: &mut Machine, app: &App, limits: &Limits)
 // Few applications are tickless.
 #[inline(never)]
 fn jump_ahead<L: Log>(machine: &mut Machine, app: &App, limits: &Limits, log: &mut L)
-    requires room { 65 ≤ (L.logged log.old).room }
+    requires room { 337 ≤ (L.logged log.old).room }
     requires idle { machine.old.sched.current ≡ None }
     requires can { CanIdle app.now limits.now machine.old }
-    ensures { Does 65 machine.old (L.logged log.old) machine.new (L.logged log.new)
+    ensures { Does 337 machine.old (L.logged log.old) machine.new (L.logged log.new)
         (λ s. unless_held slice (interrupt app.now (jump (ticks_ahead app.now limits.now s) s))) }
 {
     pass_to_next(machine, app, limits);
@@ -85,10 +98,10 @@ fn jump_ahead<L: Log>(machine: &mut Machine, app: &App, limits: &Limits, log: &m
 /// What idle does in a step.
 #[inline(always)]
 pub(crate) fn idle<L: Log>(machine: &mut Machine, app: &App, limits: &Limits, log: &mut L)
-    requires room { 65 ≤ (L.logged log.old).room }
+    requires room { 337 ≤ (L.logged log.old).room }
     requires idle { machine.old.sched.current ≡ None }
     requires can { CanIdle app.now limits.now machine.old }
-    ensures { Does 65 machine.old (L.logged log.old) machine.new (L.logged log.new)
+    ensures { Does 337 machine.old (L.logged log.old) machine.new (L.logged log.new)
         (idle app.now limits.now) }
 {
     if app.tickless() {

@@ -98,7 +98,7 @@ fn step_leaving<L: Log>(machine: &mut Machine, app: &App, task: TaskId, log: &mu
     requires none { NonePends machine.old }
     requires leaving { IsLeaving app.now machine.old task }
     requires begun { (L.logged log.old).told ≡ [] }
-    requires room { 128 ≤ (L.logged log.old).room }
+    requires room { 512 ≤ (L.logged log.old).room }
     ensures stands { (limits : Limits) (s : State) → Stands machine.old s → Stands machine.new (step app.now limits [] s) }
     ensures told { (limits : Limits) (s : State) → Stands machine.old s
         → (L.logged log.new).told ≡ (step app.now limits [] s).log }

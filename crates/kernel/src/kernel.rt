@@ -9,8 +9,10 @@ ghost use Rattle.groups.specs.StandsFor.{StandsFor as GroupsStandFor};
 ghost use Rattle.machine.specs.StandsFor.{Stands, StandsFor, StandsBefore, decider};
 ghost use Rattle.model.specs.declared.plan.Injection.{Injection};
 ghost use Rattle.model.specs.Application.{Limits};
+ghost use Rattle.model.specs.Handlers.{can_come};
 ghost use Rattle.model.specs.Step.{reset, step};
 ghost use Rattle.machine.specs.Can.{IsUnderWay};
+ghost use Rattle.model.specs.Placements.{can_all_come};
 ghost use Rattle.model.specs.Run.{end_of};
 ghost use Rattle.kernel.specs.Can.{CanStep};
 
@@ -113,7 +115,7 @@ impl Kernel {
     pub fn restore(&mut self, snapshot: &Snapshot)
         ensures { self.new ≡ snapshot.now }
     {
-        self.machine.restore(snapshot);
+        self.machine.restore(snapshot, self.tasks);
         self.tasks = snapshot.tasks();
     }
 
@@ -144,6 +146,14 @@ impl Kernel {
         ensures { (s : State) → Stands self.now s → result ≡ s.elapsed }
     {
         self.machine.clock.elapsed()
+    }
+
+    /// Whether this interrupt comes if it is injected before the next step: its handler is armed, and far enough from its last coming
+    /// (profile). The tick always can.
+    pub fn can_come(&self, source: HandlerId) -> bool
+        ensures { (s : State) → Stands self.now s → result ≡ can_come s source }
+    {
+        self.machine.can_come(source)
     }
 
     /// The scheduler, which represents each state that the kernel represents. A task that is still to be placed is among
@@ -192,7 +202,7 @@ impl Kernel {
     /// that it reports are then in the log, in order, and nothing else. It takes no memory.
     ///
     /// The kernel is of this application, and its run has not ended under these limits. The meter, which rises by 1, is
-    /// below 2^63.
+    /// below 2^63. Returns whether each of the handlers can come in its turn (profile); those that can't do nothing.
     pub fn step(
         &mut self,
         app: &App,
@@ -200,7 +210,7 @@ impl Kernel {
         limits: &Limits,
         meter: &mut Meter,
         log: &mut StepLog,
-    )
+    ) -> bool
         requires few { length handlers.now ≤ 3 }
         requires going { CanStep app.now limits.now self.old }
         requires meter { meter.old < 2 ^ 63 }
@@ -208,9 +218,10 @@ impl Kernel {
         ensures log { (s : State) → Stands self.old s
             → log.new.items ≡ (step app.now limits.now handlers.now s).log }
         ensures meter { meter.new ≡ meter.old + 1 }
+        ensures came { (s : State) → Stands self.old s → result ≡ can_all_come app.now handlers.now s }
     {
         self.tasks = MOST_TASKS;
-        step(&mut self.machine, app, handlers, limits, meter, log);
+        step(&mut self.machine, app, handlers, limits, meter, log)
     }
 
     /// The end of the run before its next step, under these limits (profile). It is the first of these that holds: a

@@ -1,11 +1,14 @@
 //! Whether a run is over, and how it ends.
-ghost use Rattle.std.specs.Prelude.{◌≡◌, ◌<◌, Some, false, true, ◌&&◌, length};
+ghost use Rattle.std.specs.Prelude.{◌≡◌, ◌<◌, None, Some, false, true, ◌&&◌, length};
 ghost use Rattle.std.specs.List.{list_all, list_any};
 ghost use Rattle.model.specs.Application.{is_endless};
 ghost use Rattle.model.specs.State.{State, Task};
 ghost use Rattle.model.specs.Step.{is_ended};
 ghost use Rattle.model.specs.Run.{end_of, are_all_ended, is_stuck};
-ghost use Rattle.machine.specs.StandsFor.{Stands, StandsFor};
+ghost use Rattle.objects.specs.Objects as objects;
+ghost use Rattle.groups.specs.StandsFor as groups;
+ghost use Rattle.sched.specs.StandsFor as sched;
+ghost use Rattle.machine.specs.StandsFor.{Stands};
 ghost use Rattle.kernel.specs.Blocked.{is_blocked};
 ghost use Rattle.kernel.specs.Over.{is_at_tick_limit, is_over};
 
@@ -17,8 +20,9 @@ use model::{App, End, Limits, TaskId};
 // It is asked only where nobody is Ready and nobody sleeps.
 #[cold]
 #[inline(never)]
-fn has_waiter(machine: &Machine) -> bool
-    ensures { (s : State) → StandsFor machine.now s → result ≡ list_any is_blocked s.tasks }
+pub(crate) fn has_waiter(machine: &Machine) -> bool
+    ensures { (s : State) → objects.StandsFor machine.now.objects None s → groups.StandsFor machine.now.groups s
+        → sched.StandsFor machine.now.sched s → result ≡ list_any is_blocked s.tasks }
 {
     machine.objects.has_waiter() || machine.groups.has_waiter() || machine.sched.has_suspended()
 }
@@ -121,7 +125,7 @@ pub(crate) fn is_left_alone(machine: &Machine, app: &App, task: TaskId) -> bool
     are_others_ended(machine, app)
 }
 
-/// Whether idle runs, no task will wake by itself, and no base interrupt is to come.
+/// Whether idle runs, no task will wake by itself, and no interrupt is to come.
 fn is_stuck(machine: &Machine, app: &App) -> bool
     ensures { (s : State) → Stands machine.now s → result ≡ is_stuck app.now s }
 {
@@ -129,6 +133,9 @@ fn is_stuck(machine: &Machine, app: &App) -> bool
         return false;
     }
     if !machine.clock.is_quiet() {
+        return false;
+    }
+    if machine.sources.first_raised().is_some() {
         return false;
     }
     !app.has_interrupt_after(machine.clock.elapsed())

@@ -30,25 +30,21 @@ pub(crate) fn pass_more(
     ensures { GoesOn app.now limits.now until kernel.old kernel.new (all_of trail.old) (all_of trail.new) }
 {
     app.well_formed();
-    if following == Following::Nothing
-        || following == Following::NextOp
-        || following == Following::Answered
-        || following == Following::LettingGo
-    {
-        return;
-    }
-    if !trail.is_silent() {
-        if following == Following::Suspended {
+    match following {
+        Following::Steps => {
+            if let Some(task) = pass_on(kernel, app, injections, until, trail.is_silent(), limits) {
+                pass_leave(kernel, app, injections, until, task, limits, trail);
+            }
+        }
+        Following::Command => {
+            if trail.is_silent() {
+                pass_command(kernel, app, injections, until, limits, trail);
+            }
+        }
+        Following::Suspended => {
             go_on_while_suspended(kernel, app, injections, until, limits, trail);
         }
-        return;
-    }
-    if following == Following::Command {
-        pass_command(kernel, app, injections, until, limits, trail);
-        return;
-    }
-    if let Some(task) = pass_on(kernel, app, injections, until, true, limits) {
-        pass_leave(kernel, app, injections, until, task, limits, trail);
+        _ => {}
     }
 }
 

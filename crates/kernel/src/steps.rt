@@ -9,6 +9,7 @@ ghost use Rattle.model.specs.declared.plan.Injection as definitions;
 ghost use Rattle.model.specs.Plans.{IsPlan};
 ghost use Rattle.model.specs.Points.{Rises};
 ghost use Rattle.model.specs.Invariant.{IsState};
+ghost use Rattle.model.specs.Placements.{can_all_come};
 ghost use Rattle.model.specs.Run.{end_of, injected, IsRun, state_after, events_after};
 ghost use Rattle.machine.specs.Logged.{all_of};
 ghost use Rattle.machine.specs.StandsFor.{Stands, DoesAny};
@@ -78,11 +79,11 @@ fn act_otherwise<L: Log>(
     limits: &Limits,
     log: &mut L,
 ) -> Following
-    requires room { 65 ≤ (L.logged log.old).room }
+    requires room { 337 ≤ (L.logged log.old).room }
     requires there { IfSome machine.old.sched.current (λ task. task < length app.now.tasks) }
     requires can { CanAct app.now limits.now machine.old }
     requires none { IsAtNone app.now machine.old }
-    ensures does { DoesAny 65 machine.old (L.logged log.old) machine.new (L.logged log.new)
+    ensures does { DoesAny 337 machine.old (L.logged log.old) machine.new (L.logged log.new)
         (λ s. act_current app.now limits.now s.current s) }
     ensures other { is_amid result ≡ false }
 {
@@ -99,10 +100,10 @@ fn act_otherwise<L: Log>(
 /// What a step does: the running task's op, or idle. It answers what may come behind it (`pass_more`).
 #[inline(always)]
 fn act_current<L: Log>(machine: &mut Machine, app: &App, limits: &Limits, log: &mut L) -> Following
-    requires room { 65 ≤ (L.logged log.old).room }
+    requires room { 337 ≤ (L.logged log.old).room }
     requires there { IfSome machine.old.sched.current (λ task. task < length app.now.tasks) }
     requires can { CanAct app.now limits.now machine.old }
-    ensures { DoesAny 65 machine.old (L.logged log.old) machine.new (L.logged log.new)
+    ensures { DoesAny 337 machine.old (L.logged log.old) machine.new (L.logged log.new)
         (λ s. act_current app.now limits.now s.current s) }
 {
     match current_op(machine, app) {
@@ -111,7 +112,8 @@ fn act_current<L: Log>(machine: &mut Machine, app: &App, limits: &Limits, log: &
     }
 }
 
-/// One step of the run, with these handlers, and with what is pending. Its events go to a log that has none of this step yet.
+/// One step of the run, with these handlers, and with what is pending. Its events go to a log that has none of this step yet. Returns
+/// whether each of the handlers can come in its turn.
 #[cold]
 #[inline(never)]
 fn step_with_handlers<L: Log>(
@@ -120,21 +122,23 @@ fn step_with_handlers<L: Log>(
     handlers: &[HandlerId],
     limits: &Limits,
     log: &mut L,
-)
+) -> bool
     requires few { length handlers.now ≤ 3 }
     requires going { CanStep app.now limits.now machine.old }
     requires begun { (L.logged log.old).told ≡ [] }
-    requires room { 598 ≤ (L.logged log.old).room }
+    requires room { 1958 ≤ (L.logged log.old).room }
     ensures stands { (s : State) → Stands machine.old s → Stands machine.new (step app.now limits.now handlers.now s) }
     ensures told { (s : State) → Stands machine.old s
         → (L.logged log.new).told ≡ (step app.now limits.now handlers.now s).log }
     ensures before { (L.logged log.new).before ≡ (L.logged log.old).before }
+    ensures came { (s : State) → Stands machine.old s → result ≡ can_all_come app.now handlers.now s }
 {
     app.well_formed();
-    come_before(machine, app, handlers, log);
+    let came = come_before(machine, app, handlers, log);
     act_current(machine, app, limits, log);
     machine.settle(log);
     machine.steps += 1;
+    came
 }
 
 /// One step of the run, without handlers and with nothing pending. Its events go to a log that has none of this step yet. It answers what
@@ -144,7 +148,7 @@ fn step_alone<L: Log>(machine: &mut Machine, app: &App, limits: &Limits, log: &m
     requires going { CanStep app.now limits.now machine.old }
     requires none { NonePends machine.old }
     requires begun { (L.logged log.old).told ≡ [] }
-    requires room { 128 ≤ (L.logged log.old).room }
+    requires room { 512 ≤ (L.logged log.old).room }
     ensures stands { (s : State) → Stands machine.old s → Stands machine.new (step app.now limits.now [] s) }
     ensures told { (s : State) → Stands machine.old s → (L.logged log.new).told ≡ (step app.now limits.now [] s).log }
     ensures before { (L.logged log.new).before ≡ (L.logged log.old).before }
@@ -177,7 +181,7 @@ fn step_at<L: Log>(
     requires none { NonePends machine.old }
     requires at { IsAt app.now machine.old task op.now }
     requires begun { (L.logged log.old).told ≡ [] }
-    requires room { 128 ≤ (L.logged log.old).room }
+    requires room { 512 ≤ (L.logged log.old).room }
     ensures stands { (s : State) → Stands machine.old s → Stands machine.new (step app.now limits.now [] s) }
     ensures told { (s : State) → Stands machine.old s → (L.logged log.new).told ≡ (step app.now limits.now [] s).log }
     ensures before { (L.logged log.new).before ≡ (L.logged log.old).before }
@@ -193,29 +197,37 @@ fn step_at<L: Log>(
 {
     app.well_formed();
     let _ = limits;
-    let following = act(machine, app, task, op, log);
-    // The end of the step is here five times, so that nothing is asked behind an op that nothing may follow, and no switch is looked for
-    // behind one that only takes its task to another op, or whose call holds the scheduler.
-    if following == Following::NextOp {
-        machine.steps += 1;
-        return Following::NextOp;
+    // The end of the step is in each arm, so that what may follow is known behind it and isn't asked again, and no switch is looked for
+    // behind an op that only takes its task to another op, or whose call holds the scheduler.
+    match act(machine, app, task, op, log) {
+        Following::Steps => {
+            machine.settle(log);
+            machine.steps += 1;
+            Following::Steps
+        }
+        Following::NextOp => {
+            machine.steps += 1;
+            Following::NextOp
+        }
+        Following::Answered => {
+            machine.steps += 1;
+            Following::Answered
+        }
+        Following::LettingGo => {
+            machine.steps += 1;
+            Following::LettingGo
+        }
+        Following::Nothing => {
+            machine.settle(log);
+            machine.steps += 1;
+            Following::Nothing
+        }
+        seldom => {
+            machine.settle(log);
+            machine.steps += 1;
+            seldom
+        }
     }
-    if following == Following::Answered {
-        machine.steps += 1;
-        return Following::Answered;
-    }
-    if following == Following::Nothing {
-        machine.settle(log);
-        machine.steps += 1;
-        return Following::Nothing;
-    }
-    if following == Following::LettingGo {
-        machine.steps += 1;
-        return Following::LettingGo;
-    }
-    machine.settle(log);
-    machine.steps += 1;
-    following
 }
 
 /// One step of the run without handlers and with nothing pending, where something holds the scheduler or idle runs. Its events go to a log
@@ -230,7 +242,7 @@ fn step_otherwise<L: Log>(
     requires going { CanStep app.now limits.now machine.old }
     requires none { NonePends machine.old }
     requires begun { (L.logged log.old).told ≡ [] }
-    requires room { 128 ≤ (L.logged log.old).room }
+    requires room { 512 ≤ (L.logged log.old).room }
     ensures stands { (s : State) → Stands machine.old s → Stands machine.new (step app.now limits.now [] s) }
     ensures told { (s : State) → Stands machine.old s → (L.logged log.new).told ≡ (step app.now limits.now [] s).log }
     ensures before { (L.logged log.new).before ≡ (L.logged log.old).before }
@@ -250,7 +262,7 @@ fn step_otherwise<L: Log>(
 /// events that it reports are then in the log, in order, and nothing else. It takes no memory.
 ///
 /// The kernel is of this application, and its run has not ended under some limits. The meter, which rises by 1, is
-/// below 2^63.
+/// below 2^63. Returns whether each of the handlers can come in its turn; those that can't do nothing.
 pub(crate) fn step(
     machine: &mut Machine,
     app: &App,
@@ -258,7 +270,7 @@ pub(crate) fn step(
     limits: &Limits,
     meter: &mut Meter,
     log: &mut StepLog,
-)
+) -> bool
     requires few { length handlers.now ≤ 3 }
     requires going { CanStep app.now limits.now machine.old }
     requires meter { meter.old < 2 ^ 63 }
@@ -266,10 +278,12 @@ pub(crate) fn step(
     ensures log { (s : State) → Stands machine.old s
         → log.new.items ≡ (step app.now limits.now handlers.now s).log }
     ensures meter { meter.new ≡ meter.old + 1 }
+    ensures came { (s : State) → Stands machine.old s → result ≡ can_all_come app.now handlers.now s }
 {
     log.clear();
-    step_with_handlers(machine, app, handlers, limits, log);
+    let came = step_with_handlers(machine, app, handlers, limits, log);
     meter.count();
+    came
 }
 
 /// The running task and the op that it is at, if nothing holds the scheduler in a state that a run comes to. Where something holds it,
@@ -458,7 +472,7 @@ fn step_along_script(
     requires soon { kernel.old.steps + 1 < until }
     requires at { IsAt app.now kernel.old task first.now }
     requires begun { trail.old.told ≡ [] }
-    requires room { 128 ≤ trail.old.room }
+    requires room { 512 ≤ trail.old.room }
     ensures along { GoesFurther app.now limits.now until kernel.old kernel.new (all_of trail.old) (all_of trail.new) }
     ensures on { kernel.old.steps < kernel.new.steps }
     ensures soon { kernel.new.steps < until }
@@ -468,18 +482,24 @@ fn step_along_script(
     let last = until - 2;
     let mut op = first;
     'steps: loop {
-        let following = step_at(kernel, app, task, op, limits, trail);
-        if following == Following::Answered {
-            if last < kernel.steps || trail.begin().is_err() {
+        match step_at(kernel, app, task, op, limits, trail) {
+            Following::NextOp => {
+                if last < kernel.steps {
+                    return Following::Nothing;
+                }
+            }
+            Following::Answered => {
+                if last < kernel.steps || trail.begin().is_err() {
+                    return Following::Nothing;
+                }
+            }
+            Following::LettingGo => {
+                if kernel.steps <= last {
+                    pass_held(kernel, app, injections, until, task, op, limits, trail);
+                }
                 return Following::Nothing;
             }
-        } else if following == Following::LettingGo {
-            if kernel.steps <= last {
-                pass_held(kernel, app, injections, until, task, op, limits, trail);
-            }
-            return Following::Nothing;
-        } else if following != Following::NextOp || last < kernel.steps {
-            return following;
+            following => return following,
         }
         let Some(next) = op_of(app, task, kernel.progress(task).op_index) else {
             return Following::Nothing;
@@ -504,7 +524,7 @@ fn steps_otherwise(
     requires going { IsGoing app.now limits.now until kernel.old injections.now }
     requires soon { kernel.old.steps + 1 < until }
     requires begun { trail.old.told ≡ [] }
-    requires room { 128 ≤ trail.old.room }
+    requires room { 512 ≤ trail.old.room }
     ensures along { GoesFurther app.now limits.now until kernel.old kernel.new (all_of trail.old) (all_of trail.new) }
     ensures on { kernel.old.steps < kernel.new.steps }
     ensures soon { kernel.new.steps < until }
@@ -536,7 +556,7 @@ fn step_on(
     requires soon { kernel.old.steps + 1 < until }
     requires some { IfSome op (λ op. IsAt app.now kernel.old task op.now) }
     requires begun { trail.old.told ≡ [] }
-    requires room { 128 ≤ trail.old.room }
+    requires room { 512 ≤ trail.old.room }
     ensures along { GoesFurther app.now limits.now until kernel.old kernel.new (all_of trail.old) (all_of trail.new) }
     ensures on { kernel.old.steps < kernel.new.steps }
     ensures soon { kernel.new.steps < until }

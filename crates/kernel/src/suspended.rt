@@ -24,6 +24,7 @@ use ops::event_groups::{clear_bits, get_bits};
 use ops::notifications::clear_notification;
 use ops::queues::{messages_waiting, spaces_available};
 use ops::script::{branch, close_turn, end_if, expect, leave_loop, mark, open_loop, skip_branch};
+use ops::sources::control;
 use ops::suspension::{resume_all, suspend_all};
 use ops::time::{since, stamp, time, use_up};
 use ops::values::calculate;
@@ -138,11 +139,11 @@ pub(crate) fn call_enter_critical(machine: &mut Machine, app: &App, task: TaskId
 /// `work` while a `suspend_all` is in force: a tick of it is used up, and the tick that comes is held.
 #[inline(always)]
 fn work_on<L: Log>(machine: &mut Machine, app: &App, task: TaskId, ticks: u32, log: &mut L)
-    requires room { 64 ≤ (L.logged log.old).room }
+    requires room { 336 ≤ (L.logged log.old).room }
     requires can { CanHold app.now machine.old task (op.Work ticks) }
     requires some { 0 < machine.old.sched.suspensions }
     requires closed { machine.old.sections ≡ 0 }
-    ensures { Does 64 machine.old (L.logged log.old) machine.new (L.logged log.new)
+    ensures { Does 336 machine.old (L.logged log.old) machine.new (L.logged log.new)
         (act app.now task (op.Work ticks)) }
 {
     use_up(machine, app, task, ticks);
@@ -152,11 +153,11 @@ fn work_on<L: Log>(machine: &mut Machine, app: &App, task: TaskId, ticks: u32, l
 /// What an op does that is no misuse while a task holds the scheduler.
 #[inline(always)]
 fn act_on<L: Log>(machine: &mut Machine, app: &App, task: TaskId, op: &Op, log: &mut L)
-    requires room { 64 ≤ (L.logged log.old).room }
+    requires room { 336 ≤ (L.logged log.old).room }
     requires can { CanHold app.now machine.old task op.now }
     requires some { 0 < machine.old.sched.suspensions }
     requires fine { (s : State) → Stands machine.old s → misuse s task op.now ≡ None }
-    ensures { Does 64 machine.old (L.logged log.old) machine.new (L.logged log.new)
+    ensures { Does 336 machine.old (L.logged log.old) machine.new (L.logged log.new)
         (act_by_value app.now task op.now) }
 {
     match *op {
@@ -212,6 +213,7 @@ fn act_on<L: Log>(machine: &mut Machine, app: &App, task: TaskId, op: &Op, log: 
         Op::ResumeAll => resume_all(machine, app, task, log),
         Op::EnterCritical => enter_critical(machine, app, task),
         Op::ExitCritical => exit_critical(machine, app, task),
+        Op::Source(handler, op) => control(machine, app, task, handler, op),
         // Every other may switch.
         _ => {}
     }
@@ -274,10 +276,10 @@ fn misuse(machine: &Machine, task: TaskId, op: &Op) -> Option<Misuse>
 /// What an op does while a task holds the scheduler, unless it is a misuse.
 #[inline(always)]
 fn act_unless_misuse<L: Log>(machine: &mut Machine, app: &App, task: TaskId, op: &Op, log: &mut L)
-    requires room { 64 ≤ (L.logged log.old).room }
+    requires room { 336 ≤ (L.logged log.old).room }
     requires can { CanHold app.now machine.old task op.now }
     requires some { 0 < machine.old.sched.suspensions }
-    ensures { Does 64 machine.old (L.logged log.old) machine.new (L.logged log.new)
+    ensures { Does 336 machine.old (L.logged log.old) machine.new (L.logged log.new)
         (λ s. act_unless app.now task (misuse s task op.now) op.now s) }
 {
     if let Some(misuse) = misuse(machine, task, op) {
@@ -298,13 +300,13 @@ pub(crate) fn act_while_suspended<L: Log>(
     task: TaskId,
     log: &mut L,
 )
-    requires room { 65 ≤ (L.logged log.old).room }
+    requires room { 337 ≤ (L.logged log.old).room }
     requires there { task < length app.now.tasks }
     requires runs { machine.old.sched.current ≡ Some task }
     requires can { (op : Op) → op_at app.now task (progress_in machine.old.progress task).op_index ≡ Some op
         → CanHold app.now machine.old task op }
     requires some { 0 < machine.old.sched.suspensions }
-    ensures { (limits : Limits) → DoesAny 65 machine.old (L.logged log.old) machine.new (L.logged log.new)
+    ensures { (limits : Limits) → DoesAny 337 machine.old (L.logged log.old) machine.new (L.logged log.new)
         (λ s. act_current app.now limits s.current s) }
 {
     let op_index = machine.progress(task).op_index;
@@ -340,7 +342,7 @@ fn step_while_suspended<L: Log>(
     requires runs { machine.old.sched.current ≡ Some task }
     requires some { 0 < machine.old.sched.suspensions }
     requires begun { (L.logged log.old).told ≡ [] }
-    requires room { 128 ≤ (L.logged log.old).room }
+    requires room { 512 ≤ (L.logged log.old).room }
     ensures stands { (s : State) → Stands machine.old s → Stands machine.new (step app.now limits.now [] s) }
     ensures told { (s : State) → Stands machine.old s → (L.logged log.new).told ≡ (step app.now limits.now [] s).log }
     ensures before { (L.logged log.new).before ≡ (L.logged log.old).before }

@@ -36,6 +36,13 @@ use Rattle.model.specs.Time.{wake_due, advance, increment_tick, jump}
 use Rattle.model.specs.declared.plan.Injection.{Injection}
 use Rattle.model.specs.declared.op.IsrOp.{IsrOp}
 use Rattle.model.specs.declared.op.IsrOp.TheVariants as isr_op
+use Rattle.model.specs.declared.op.Op.TheVariants as op
+use Rattle.model.specs.declared.source.SourceOp.{SourceOp}
+use Rattle.model.specs.declared.source.SourceOp.TheVariants.{Arm, Disarm, Raise, Cancel}
+use Rattle.model.specs.Ops.{control, do_to_source}
+use Rattle.model.specs.State.{source_at, with_source}
+use Rattle.model.specs.Handlers.{can_come, come, note_coming, none_raised_now, raised_now}
+use Rattle.std.proofs.Common.{◌++◌}
 use Rattle.model.specs.Handlers.{isr_told, isr, isr_answer, isr_jump, is_failed, isr_each, handle, serve, inject, interrupt}
 use Rattle.model.specs.Handlers.{is_tick, pend, pending_of, none_pending, serve_pending, tick_interrupt, idle, ticks_ahead}
 use Rattle.model.specs.Groups.{clear}
@@ -59,11 +66,11 @@ use Rattle.laws.proofs.Deeds.{kept-yield_now}
 -- ---- what every step keeps, if four kinds of change keep it
 
 module _ {P : State → Type 0} {stamps answers : ℕ → Bool} {x : ℕ} {stores : Bool} {task : ℕ} {takes : Bool}
-    (four : Keeping P stamps answers x stores task takes) where
+    (four : Keeping P stamps answers x stores task takes true) where
   -- ---- handlers
 
   kept-write : (w : What) (s : State) → P s → P (write w s)
-  kept-write w s h = four.framed s (write w s) refl refl refl (inl refl) (λ _. refl, λ _ k. k) h
+  kept-write w s h = four.framed s (write w s) refl refl refl (inl refl) (λ _. refl, λ _ k. k, λ no. absurd (cc)) h
 
   -- No op of a handler stores to the variable, unless it may be stored.
   abbrev AreSpared : Application → Type 0
@@ -72,7 +79,17 @@ module _ {P : State → Type 0} {stamps answers : ℕ → Bool} {x : ℕ} {store
   kept-store : (op : ValueOp) (a : Option ℕ) (s : State) → (stores ≡ false → is_store_to x op ≡ false) → P s → P (store op a s)
   kept-store op a s may h =
       four.framed s (store op a s) refl refl refl (inl refl)
-      (λ no. left_by_op x op a s.variables (may no), λ _ k. k) h
+      (λ no. left_by_op x op a s.variables (may no), λ _ k. k, λ no. absurd (cc)) h
+
+  kept-source : (handler : ℕ) (op : SourceOp) (s : State) → P s → P (do_to_source handler op s)
+  kept-source handler Arm s h =
+      four.framed s (do_to_source handler Arm s) refl refl refl (inl refl) (λ _. refl, λ _ k. k, λ no. absurd (cc)) h
+  kept-source handler Disarm s h =
+      four.framed s (do_to_source handler Disarm s) refl refl refl (inl refl) (λ _. refl, λ _ k. k, λ no. absurd (cc)) h
+  kept-source handler (Raise n) s h =
+      four.framed s (do_to_source handler (Raise n) s) refl refl refl (inl refl) (λ _. refl, λ _ k. k, λ no. absurd (cc)) h
+  kept-source handler Cancel s h =
+      four.framed s (do_to_source handler Cancel s) refl refl refl (inl refl) (λ _. refl, λ _ k. k, λ no. absurd (cc)) h
 
   kept-isr : (app : Application) (handler op_index : ℕ) (op : IsrOp) (last : Option ℕ) (s : State)
       → (stores ≡ false → isr_stores_to x op ≡ false) → P s → P (isr app handler op_index op last s)
@@ -93,6 +110,7 @@ module _ {P : State → Type 0} {stamps answers : ℕ → Bool} {x : ℕ} {store
   kept-isr app handler op_index (isr_op.Value op) last s may h =
       let a : Option ℕ = answer_of s.variables last op in
       kept-write (isr_told handler op_index a) (store op a s) (kept-store op a s may h)
+  kept-isr app handler op_index (isr_op.Source other op) last s may h = kept-source other op s h
   kept-isr app handler op_index (isr_op.Mark value) last s may h =
       kept-write (what.IsrMark handler (number_of s.variables last value)) s h
   kept-isr app handler op_index (isr_op.Expect condition) last s may h = h
@@ -119,6 +137,12 @@ module _ {P : State → Type 0} {stamps answers : ℕ → Bool} {x : ℕ} {store
   unfolding handle
   kept-handle app spared handler s h = kept-isr_each app handler 0 0 None (ops_of app handler) s (λ no. spared no handler) h
 
+  kept-come : (app : Application) → AreSpared app → (handler : ℕ) (s : State) → P s → P (come app handler s)
+  unfolding come
+  kept-come app spared handler s h =
+      kept-handle app spared handler (note_coming app handler s)
+      (four.framed s (note_coming app handler s) refl refl refl (inl refl) (λ _. refl, λ _ k. k, λ no. absurd (cc)) h)
+
   kept-each : {A : Type 0} (deed : A → State → State) (k : (a : A) (s : State) → P s → P (deed a s)) (ones : List A) (s : State)
       → P s → P (for_each deed ones s)
   kept-each deed k [] s h = h
@@ -134,29 +158,41 @@ module _ {P : State → Type 0} {stamps answers : ℕ → Bool} {x : ℕ} {store
   kept-increment s h =
       let t : State = record s { elapsed = s.elapsed + 1 } in
       by_test (holds_ticks s)
-      (λ u. rw u (four.framed s (record t { held_ticks = s.held_ticks + 1 }) refl refl refl (inl refl) (λ _. refl, λ _ k. k) h))
-      (λ u. rw u (four.passed 1 t (none_in_one t) (four.framed s t refl refl refl (inl refl) (λ _. refl, λ _ k. k) h)))
+      (λ u. rw u (four.framed s (record t { held_ticks = s.held_ticks + 1 }) refl refl refl (inl refl)
+      (λ _. refl, λ _ k. k, λ no. absurd (cc)) h))
+      (λ u. rw u (four.passed 1 t (none_in_one t) (four.framed s t refl refl refl (inl refl)
+      (λ _. refl, λ _ k. k, λ no. absurd (cc)) h)))
+
+  kept-interrupt : (app : Application) → AreSpared app → (s : State) → P s → P (interrupt app s)
+  unfolding interrupt
+  kept-interrupt app spared s h =
+      kept-each (come app) (kept-come app spared) (interrupts_at app s.elapsed ++ raised_now s) (none_raised_now s)
+      (four.framed s (none_raised_now s) refl refl refl (inl refl) (λ _. refl, λ _ k. k, λ no. absurd (cc)) h)
 
   kept-tick : (app : Application) → AreSpared app → (s : State) → P s → P (tick_interrupt app s)
-  unfolding tick_interrupt interrupt
+  unfolding tick_interrupt
   kept-tick app spared s h =
-      let come : State = increment_tick s in
-      kept-unless_held slice (kept-slice four) _
-      (kept-each (handle app) (kept-handle app spared) (interrupts_at app come.elapsed) come (kept-increment s h))
+      kept-unless_held slice (kept-slice four) _ (kept-interrupt app spared (increment_tick s) (kept-increment s h))
 
   kept-serve : (app : Application) → AreSpared app → (source : ℕ) (s : State) → P s → P (serve app source s)
   unfolding serve
   kept-serve app spared source s h = by_test (is_tick app source)
       (λ t. rw t (kept-tick app spared s h))
       (λ t.
-      rw t (kept-unless_held preempt (kept-preempt four) (handle app source s) (kept-handle app spared source s h)))
+      rw t (kept-unless_held preempt (kept-preempt four) (come app source s) (kept-come app spared source s h)))
 
   kept-inject : (app : Application) → AreSpared app → (handler : ℕ) (s : State) → P s → P (inject app handler s)
   unfolding inject
-  kept-inject app spared handler s h = kept-serve app spared handler s h
+  kept-inject app spared handler s h = by_test (can_come s handler)
+      (λ t. rw t (kept-serve app spared handler s h))
+      (λ t. rw t h)
 
-  kept-pend : (handler : ℕ) (s : State) → P s → P (pend handler s)
-  kept-pend handler s h = four.framed s (pend handler s) refl refl refl (inl refl) (λ _. refl, λ _ k. k) h
+  kept-pend : (app : Application) (handler : ℕ) (s : State) → P s → P (pend app handler s)
+  kept-pend app handler s h =
+      let now : State = with_source handler (record (source_at s handler) { pending = true }) s in
+      by_test (can_come s handler)
+      (λ t. rw t (four.framed s (note_coming app handler now) refl refl refl (inl refl) (λ _. refl, λ _ k. k, λ no. absurd (cc)) h))
+      (λ t. rw t h)
 
   pub kept-before_step : (app : Application) → AreSpared app → (handlers : List ℕ) (s : State) → P s
       → P (before_step app handlers s)
@@ -165,24 +201,22 @@ module _ {P : State → Type 0} {stamps answers : ℕ → Bool} {x : ℕ} {store
       let t : State = record s { log = [] } in
       let none : State = none_pending t in
       by_test (is_critical t)
-      (λ q. rw q (kept-each pend kept-pend handlers t (four.framed s t refl refl refl (inl refl) (λ _. refl, λ _ k. k) h)))
+      (λ q. rw q (kept-each (pend app) (kept-pend app) handlers t (four.framed s t refl refl refl (inl refl)
+      (λ _. refl, λ _ k. k, λ no. absurd (cc)) h)))
       (λ q.
       rw q (kept-each (inject app) (kept-inject app spared) handlers (for_each (serve app) (pending_of t) none)
       (kept-each (serve app) (kept-serve app spared) (pending_of t) none
-      (four.framed s none refl refl refl (inl refl) (λ _. refl, λ _ k. k) h))))
+      (four.framed s none refl refl refl (inl refl) (λ _. refl, λ _ k. k, λ no. absurd (cc)) h))))
 
   kept-jump : (n : ℕ) (s : State) → NoneBetween n s → P s → P (jump n s)
   unfolding jump
   kept-jump n s none h =
       let t : State = record s { elapsed = s.elapsed + n } in
-      four.passed n t none (four.framed s t refl refl refl (inl refl) (λ _. refl, λ _ k. k) h)
+      four.passed n t none (four.framed s t refl refl refl (inl refl) (λ _. refl, λ _ k. k, λ no. absurd (cc)) h)
 
   kept-jumped : (app : Application) → AreSpared app → (n : ℕ) (s : State) → NoneBetween n s → P s → P (jumped app n s)
-  unfolding interrupt
   kept-jumped app spared n s none h =
-      let come : State = jump n s in
-      kept-unless_held slice (kept-slice four) _
-      (kept-each (handle app) (kept-handle app spared) (interrupts_at app come.elapsed) come (kept-jump n s none h))
+      kept-unless_held slice (kept-slice four) _ (kept-interrupt app spared (jump n s) (kept-jump n s none h))
 
   kept-idle : (app : Application) → AreSpared app → (limits : Limits) (s : State) → P s → P (idle app limits s)
   unfolding idle
@@ -197,21 +231,21 @@ module _ {P : State → Type 0} {stamps answers : ℕ → Bool} {x : ℕ} {store
   unfolding resume_scheduler
   kept-resume_scheduler s h =
       let t : State = record s { suspensions = s.suspensions - 1 } in
-      let less : P t = four.framed s t refl refl refl (inl refl) (λ _. refl, λ _ k. k) h in
+      let less : P t = four.framed s t refl refl refl (inl refl) (λ _. refl, λ _ k. k, λ no. absurd (cc)) h in
       by_test (eqb s.suspensions 1)
       (λ q. rw q (kept-applied four s.held_ticks t less))
       (λ q. rw q less)
 
   kept-judge : (i op_index : ℕ) (s : State) → P s → P (judge i op_index s)
   kept-judge i op_index s h = by_judgement P i op_index s h
-      (λ kind. four.framed s _ refl refl refl (inr (inr refl)) (λ _. refl, λ _ k. k) h)
+      (λ kind. four.framed s _ refl refl refl (inr (inr refl)) (λ _. refl, λ _ k. k, λ no. absurd (cc)) h)
 
   kept-sections : (app : Application) (i n : ℕ) (s : State) → P s → P (with_sections app i n s)
   unfolding with_sections
   kept-sections app i n s h =
       let t : State = record s { sections = n } in
       kept-go_to four app i ((progress_at s i).op_index + 1) (progress_at s i) t (λ _. refl, λ _. refl)
-      (four.framed s t refl refl refl (inl refl) (λ _. refl, λ _ k. k) h)
+      (four.framed s t refl refl refl (inl refl) (λ _. refl, λ _ k. k, λ no. absurd (cc)) h)
 
   -- ---- a step, and a run
 
@@ -222,9 +256,18 @@ module _ {P : State → Type 0} {stamps answers : ℕ → Bool} {x : ℕ} {store
       (op ≡ Some Stamp → stamps i ≡ true) × (stores ≡ false → IfSome op (λ o. stores_to x o ≡ false)) × (answers i ≡ true)
       × (takes ≡ false → task ≡ i → IfSome op (λ o. takes_notification s i o ≡ false))
 
+  -- an op on a source leaves where each task is in its script
+  same_progress : (handler : ℕ) (what : SourceOp) (s : State) (i : ℕ)
+      → (stamps i ≡ false → (progress_at s i).stamp ≡ (progress_at (do_to_source handler what s) i).stamp)
+      × (answers i ≡ false → (progress_at s i).answer ≡ (progress_at (do_to_source handler what s) i).answer)
+  same_progress handler Arm s i = (λ _. refl, λ _. refl)
+  same_progress handler Disarm s i = (λ _. refl, λ _. refl)
+  same_progress handler (Raise n) s i = (λ _. refl, λ _. refl)
+  same_progress handler Cancel s i = (λ _. refl, λ _. refl)
+
   kept-act : (app : Application) → AreSpared app → (i : ℕ) (op : Op) (s : State) → IsAllowed s i (Some op) → P s
       → P (act app i op s)
-  unfolding open_loop close_turn skip_branch clear call_suspend call_resume suspend_all resume_all calculate call_notify
+  unfolding open_loop close_turn skip_branch clear call_suspend call_resume suspend_all resume_all calculate call_notify control
   kept-act app spared i (Work n) s may h = kept-tick app spared (use_up app i n s) (kept-use_up four app i n s h)
   kept-act app spared i (Delay n) s may h = kept-delay four app i may.2 n s h
   kept-act app spared i (DelayUntil n) s may h = kept-delay_until four app i may.2 ((progress_at s i).previous_wake + n) s h
@@ -236,7 +279,7 @@ module _ {P : State → Type 0} {stamps answers : ℕ → Bool} {x : ℕ} {store
   kept-act app spared i (Mark value) s may h =
       let t : State = write (what.Mark i (number_of s.variables (progress_at s i).answer value)) s in
       kept-go_to four app i ((progress_at s i).op_index + 1) (progress_at s i) t (λ _. refl, λ _. refl)
-      (four.framed s t refl refl refl (inl refl) (λ _. refl, λ _ k. k) h)
+      (four.framed s t refl refl refl (inl refl) (λ _. refl, λ _ k. k, λ no. absurd (cc)) h)
   kept-act app spared i (Expect condition) s may h = kept-expect four app i condition s h
   kept-act app spared i (Repeat n) s may h = kept-go_to four app i ((progress_at s i).op_index + 1) _ s (λ _. refl, λ _. refl) h
   kept-act app spared i End s may h = kept-turn four app i (progress_at s i) (progress_at s i).loops s (λ _. refl, λ _. refl) h
@@ -270,10 +313,13 @@ module _ {P : State → Type 0} {stamps answers : ℕ → Bool} {x : ℕ} {store
   kept-act app spared i Obey s may h = kept-obey four app i may.2 (command_at s i) (call_at s i).phase s h
   kept-act app spared i SuspendAll s may h =
       let t : State = record s { suspensions = s.suspensions + 1 } in
-      kept-answer four app i may.2 (Some 0) t (four.framed s t refl refl refl (inl refl) (λ _. refl, λ _ k. k) h)
+      kept-answer four app i may.2 (Some 0) t (four.framed s t refl refl refl (inl refl) (λ _. refl, λ _ k. k, λ no. absurd (cc)) h)
   kept-act app spared i ResumeAll s may h =
       kept-unless_held preempt (kept-preempt four) _
       (kept-answer four app i may.2 (Some 0) (resume_scheduler s) (kept-resume_scheduler s h))
+  kept-act app spared i (op.Source handler what) s may h =
+      kept-go_to four app i ((progress_at s i).op_index + 1) (progress_at s i) (do_to_source handler what s)
+      (same_progress handler what s i) (kept-source handler what s h)
   kept-act app spared i EnterCritical s may h = kept-sections app i (s.sections + 1) s h
   kept-act app spared i ExitCritical s may h = kept-sections app i (s.sections - 1) s h
 
@@ -283,7 +329,7 @@ module _ {P : State → Type 0} {stamps answers : ℕ → Bool} {x : ℕ} {store
       kept-judge i (progress_at s i).op_index (act_by_value app i op s)
       (by_value P app i op s (kept-fail four (Check i (progress_at s i).op_index) s refl h) (kept-act app spared i op s may h))
   kept-act_unless app spared i (Some kind) op s may h =
-      four.framed s (act_unless app i (Some kind) op s) refl refl refl (inr (inr refl)) (λ _. refl, λ _ k. k) h
+      four.framed s (act_unless app i (Some kind) op s) refl refl refl (inr (inr refl)) (λ _. refl, λ _ k. k, λ no. absurd (cc)) h
 
   kept-act_if : (app : Application) → AreSpared app → (i : ℕ) (o : Option Op) (s : State) → IsAllowed s i o → P s
       → P (act_if app i o s)
@@ -306,7 +352,7 @@ module _ {P : State → Type 0} {stamps answers : ℕ → Bool} {x : ℕ} {store
   kept-step app spared limits handlers s may h =
       let begun : State = before_step app handlers s in
       let acted : State = unless_held settle (act_current app limits begun.current begun) in
-      four.framed acted (record acted { steps = s.steps + 1 }) refl refl refl (inl refl) (λ _. refl, λ _ k. k)
+      four.framed acted (record acted { steps = s.steps + 1 }) refl refl refl (inl refl) (λ _. refl, λ _ k. k, λ no. absurd (cc))
       (kept-unless_held settle (kept-settle four) (act_current app limits begun.current begun)
       (kept-act_current app spared limits begun.current begun may (kept-before_step app spared handlers s h)))
 
@@ -314,7 +360,7 @@ module _ {P : State → Type 0} {stamps answers : ℕ → Bool} {x : ℕ} {store
   unfolding reset ready_at_reset
   kept-reset app h =
       let s : State = for_each make_ready (with_ops 0 app.tasks) (nobody_ready app) in
-      four.framed s (record s { current = choice s }) refl refl refl (inl refl) (λ _. refl, λ _ k. k)
+      four.framed s (record s { current = choice s }) refl refl refl (inl refl) (λ _. refl, λ _ k. k, λ no. absurd (cc))
       (kept-all_ready four (with_ops 0 app.tasks) (nobody_ready app) h)
 
 -- any task may stamp, or answer
@@ -330,7 +376,7 @@ module _ (P : State → Type 0)
     (taken : (s : State) (i : ℕ) (status : ℕ → Status) → ticket_of (status s.next_ticket) ≡ Some s.next_ticket
     → IfSome (wake_time_of (status s.next_ticket)) (λ w. s.time < w) → P s → P (take_ticket i status s))
     (passed : (n : ℕ) (s : State) → NoneBetween n s → P s → P (wake_due (record s { time = s.time + n }))) where
-  them : Keeping P anyone anyone 0 true 0 true
+  them : Keeping P anyone anyone 0 true 0 true true
   them = record { framed = λ s t e n m stops left. framed s t e n m stops; moved = moved; taken = taken; passed = passed }
 
   pub kept_after : (app : Application) → P (nobody_ready app)

@@ -71,10 +71,12 @@ pub record Keeping (P : State → Type 0)
     -- a variable, and whether it may be stored
     (x : ℕ) (stores : Bool)
     -- a task, and whether its notification may be taken
-    (task : ℕ) (takes : Bool) : Type 0 where
+    (task : ℕ) (takes : Bool)
+    -- whether the interrupt sources may be touched, and ticks elapse
+    (touches : Bool) : Type 0 where
   -- neither the clock's count of ticks, nor who runs, nor the steps and events matter; a run may be stopped
   pub framed : (s t : State) → t.tasks ≡ s.tasks → t.next_ticket ≡ s.next_ticket
-      → t.time ≡ s.time → Stops s.stopped t.stopped → AreLeft x stores task takes s t → P s → P t
+      → t.time ≡ s.time → Stops s.stopped t.stopped → AreLeft x stores task takes touches s t → P s → P t
   -- a task goes on, or is Suspended or Ended
   pub moved : (s : State) (i : ℕ) (t : Task) → Stays (status_at s i) t.status
       → Remains (stamps i) (answers i) (task_at s i) t → P s → P (with_task i t s)
@@ -84,8 +86,8 @@ pub record Keeping (P : State → Type 0)
   -- ticks pass, one or several, before the last of which nobody wakes, and all who are due are Ready
   pub passed : (n : ℕ) (s : State) → NoneBetween n s → P s → P (wake_due (record s { time = s.time + n }))
 
-module _ {P : State → Type 0} {stamps answers : ℕ → Bool} {x : ℕ} {stores : Bool} {task : ℕ} {takes : Bool}
-    (four : Keeping P stamps answers x stores task takes) where
+module _ {P : State → Type 0} {stamps answers : ℕ → Bool} {x : ℕ} {stores : Bool} {task : ℕ} {takes touches : Bool}
+    (four : Keeping P stamps answers x stores task takes touches) where
   made_ready : (s : State) (i : ℕ) → P s → P (make_ready i s)
   made_ready s i h = four.taken s i Ready refl tt h
 
@@ -102,7 +104,7 @@ module _ {P : State → Type 0} {stamps answers : ℕ → Bool} {x : ℕ} {store
   kept-choose s h =
       by_test (is_same (choice s) s.current) (λ t. rw t h)
       (λ t. rw t (four.framed s (write (what.Run (choice s)) (record s { current = choice s })) refl refl refl (inl refl)
-      (λ _. refl, λ _ k. k) h))
+      (λ _. refl, λ _ k. k, λ _. (refl, refl)) h))
 
   pub kept-yield_now : (s : State) → P s → P (yield_now s)
   unfolding yield_now
@@ -139,7 +141,7 @@ module _ {P : State → Type 0} {stamps answers : ℕ → Bool} {x : ℕ} {store
       let p : Progress = record (progress_at s i) { answer = a } in
       let t : State = write (called i p.op_index a) s in
       kept-go_to app i (p.op_index + 1) p t (λ _. refl, λ no. absurd (cc))
-      (four.framed s t refl refl refl (inl refl) (λ _. refl, λ _ k. k) h)
+      (four.framed s t refl refl refl (inl refl) (λ _. refl, λ _ k. k, λ _. (refl, refl)) h)
 
   pub kept-use_up : (app : Application) (i n : ℕ) (s : State) → P s → P (use_up app i n s)
   unfolding use_up
@@ -181,7 +183,8 @@ module _ {P : State → Type 0} {stamps answers : ℕ → Bool} {x : ℕ} {store
       (λ t. rw t (kept-set_previous_wake i w (answer app i (Some 0) s) (kept-answer app i ma (Some 0) s h)))
 
   pub kept-fail : (check : Ending) (s : State) → is_failed_check (Some check) ≡ true → P s → P (fail check s)
-  kept-fail check s is h = four.framed s (fail check s) refl refl refl (stops-fail s.stopped check is) (λ _. refl, λ _ k. k) h
+  kept-fail check s is h =
+      four.framed s (fail check s) refl refl refl (stops-fail s.stopped check is) (λ _. refl, λ _ k. k, λ _. (refl, refl)) h
 
   pub kept-stamp : (app : Application) (i : ℕ) (s : State) → stamps i ≡ true → P s → P (stamp app i s)
   unfolding stamp
@@ -256,7 +259,7 @@ module _ {P : State → Type 0} {stamps answers : ℕ → Bool} {x : ℕ} {store
   kept-fulfil caller o a s h =
       let t : State = with_object o (object_after caller a (object_at s o)) s in
       kept-one wake_best (list_woken caller o a) t (λ list. kept-wake_best list t)
-      (four.framed s t refl refl refl (inl refl) (λ _. refl, λ _ k. k) h)
+      (four.framed s t refl refl refl (inl refl) (λ _. refl, λ _ k. k, λ _. (refl, refl)) h)
 
   pub kept-attempt : (caller : Option ℕ) (o : ℕ) (a : Access ℕ) (s : State) → P s → P (attempt caller o a s)
   unfolding attempt
@@ -316,7 +319,7 @@ module _ {P : State → Type 0} {stamps answers : ℕ → Bool} {x : ℕ} {store
       let free : State = with_object o (record (object_at s o) { holder = None }) s in
       kept-preempt _ (kept-answer app i ma (Some 1) _
       (kept-wake_best (ToReceive o) _
-      (kept-disinherit i free (four.framed s free refl refl refl (inl refl) (λ _. refl, λ _ k. k) h))))
+      (kept-disinherit i free (four.framed s free refl refl refl (inl refl) (λ _. refl, λ _ k. k, λ _. (refl, refl)) h))))
 
   -- ---- calls that may wait, and those that don't
 
@@ -341,7 +344,7 @@ module _ {P : State → Type 0} {stamps answers : ℕ → Bool} {x : ℕ} {store
   kept-lock : (i o : ℕ) (phase : Phase) (s : State) → P s → P (lock i o phase s)
   kept-lock i o phase s h =
       let t : State = record s { call_hold = true; locked = Some o } in
-      kept-with_call i _ t (four.framed s t refl refl refl (inl refl) (λ _. refl, λ _ k. k) h)
+      kept-with_call i _ t (four.framed s t refl refl refl (inl refl) (λ _. refl, λ _ k. k, λ _. (refl, refl)) h)
 
   kept-decide : (i o : ℕ) (a : Access ℕ) (s : State) → P s → P (decide i o a s)
   unfolding decide
@@ -358,7 +361,8 @@ module _ {P : State → Type 0} {stamps answers : ℕ → Bool} {x : ℕ} {store
       kept-one unlock_object s.locked s
       (λ o k.
       kept-all_ready (tasks_of (awakened s (ToReceive o)) ++ tasks_of (awakened s (ToSend o)))
-      (record s { locked = None }) (four.framed s (record s { locked = None }) refl refl refl (inl refl) (λ _. refl, λ _ k. k) k))
+      (record s { locked = None }) (four.framed s (record s { locked = None }) refl refl refl (inl refl)
+      (λ _. refl, λ _ k. k, λ _. (refl, refl)) k))
       h
 
   -- ---- a hold ends
@@ -370,13 +374,13 @@ module _ {P : State → Type 0} {stamps answers : ℕ → Bool} {x : ℕ} {store
   kept-applied (suc n) s h =
       let t : State = record s { held_ticks = s.held_ticks - 1 } in
       kept-applied n (apply_one s) (four.passed 1 t (none_in_one t)
-      (four.framed s t refl refl refl (inl refl) (λ _. refl, λ _ k. k) h))
+      (four.framed s t refl refl refl (inl refl) (λ _. refl, λ _ k. k, λ _. (refl, refl)) h))
 
   kept-end_hold : (i : ℕ) (phase : Phase) (s : State) → P s → P (end_hold i phase s)
   kept-end_hold i phase s h =
       let t : State = record s { call_hold = false } in
       kept-applied s.held_ticks (let_go i phase s)
-      (kept-with_call i _ t (four.framed s t refl refl refl (inl refl) (λ _. refl, λ _ k. k) h))
+      (kept-with_call i _ t (four.framed s t refl refl refl (inl refl) (λ _. refl, λ _ k. k, λ _. (refl, refl)) h))
 
   kept-leave_call : (i : ℕ) (s : State) → P s → P (leave_call i s)
   unfolding leave_call
@@ -424,7 +428,8 @@ module _ {P : State → Type 0} {stamps answers : ℕ → Bool} {x : ℕ} {store
   -- ---- event groups
 
   pub kept-with_bits : (group bits : ℕ) (s : State) → P s → P (with_bits group bits s)
-  kept-with_bits group bits s h = four.framed s (with_bits group bits s) refl refl refl (inl refl) (λ _. refl, λ _ k. k) h
+  kept-with_bits group bits s h =
+      four.framed s (with_bits group bits s) refl refl refl (inl refl) (λ _. refl, λ _ k. k, λ _. (refl, refl)) h
 
   kept-wake_all : (bits : ℕ) (is : List ℕ) (s : State) → P s → P (wake_all is bits s)
   kept-wake_all bits [] s h = h
@@ -443,7 +448,7 @@ module _ {P : State → Type 0} {stamps answers : ℕ → Bool} {x : ℕ} {store
   kept-begin_set i group mask s h =
       let t : State = record s { call_hold = true } in
       kept-with_call i _ _ (kept-with_call i _ _
-      (kept-set group mask t (four.framed s t refl refl refl (inl refl) (λ _. refl, λ _ k. k) h)))
+      (kept-set group mask t (four.framed s t refl refl refl (inl refl) (λ _. refl, λ _ k. k, λ _. (refl, refl)) h)))
 
   kept-end_set : (app : Application) (i : ℕ) → answers i ≡ true → (s : State) → P s
       → P (preempt (answer app i (call_at s i).kept (end_hold i Start s)))
@@ -473,7 +478,8 @@ module _ {P : State → Type 0} {stamps answers : ℕ → Bool} {x : ℕ} {store
       let u : State = want i c (set_deadline i ticks t) in
       kept-with_call i _ _ (four.taken u i (λ ticket. WaitingForBits group ticket (call_at u i).deadline)
       refl (begun_later i c ticks t some)
-      (kept-with_call i _ _ (kept-set_deadline i ticks t (four.framed s t refl refl refl (inl refl) (λ _. refl, λ _ k. k) h))))
+      (kept-with_call i _ _ (kept-set_deadline i ticks t (four.framed s t refl refl refl (inl refl)
+      (λ _. refl, λ _ k. k, λ _. (refl, refl)) h))))
 
   kept-check : (app : Application) (i : ℕ) → answers i ≡ true → (group : ℕ) (c : Condition) (ticks : Option ℕ) (s : State)
       → P s → P (check app i group c ticks s)
@@ -503,7 +509,8 @@ module _ {P : State → Type 0} {stamps answers : ℕ → Bool} {x : ℕ} {store
 
   kept-with_notification : (i : ℕ) (n : Notification) (s : State)
       → (takes ≡ false → StaysPending task s (with_notification i n s)) → P s → P (with_notification i n s)
-  kept-with_notification i n s may h = four.framed s (with_notification i n s) refl refl refl (inl refl) (λ _. refl, may) h
+  kept-with_notification i n s may h =
+      four.framed s (with_notification i n s) refl refl refl (inl refl) (λ _. refl, may, λ _. (refl, refl)) h
 
   kept-wake_notified : (i : ℕ) (s : State) → P s → P (wake_notified i s)
   kept-wake_notified i s h = by_test (waits_for_notification (status_at s i))
@@ -537,7 +544,7 @@ module _ {P : State → Type 0} {stamps answers : ℕ → Bool} {x : ℕ} {store
       let u : State = set_deadline i ticks t in
       kept-with_call i _ _ (four.taken u i (λ ticket. WaitingForNotification ticket (call_at u i).deadline)
       refl (dated_later i ticks t some)
-      (kept-set_deadline i ticks t (four.framed s t refl refl refl (inl refl) (λ _. refl, λ _ k. k) h)))
+      (kept-set_deadline i ticks t (four.framed s t refl refl refl (inl refl) (λ _. refl, λ _ k. k, λ _. (refl, refl)) h)))
 
   kept-check_notification : (app : Application) (i : ℕ) → answers i ≡ true
       → (wait : NotificationWait) (ticks : Option ℕ) (s : State)
@@ -605,7 +612,7 @@ module _ {P : State → Type 0} {stamps answers : ℕ → Bool} {x : ℕ} {store
   kept-obeyed app i ma clear bits s h =
       let t : State = write (what.Obeyed i clear bits) s in
       kept-go_to app i 0 (record (progress_at s i) { answer = Some bits }) t (λ _. refl, λ no. absurd (cc))
-      (four.framed s t refl refl refl (inl refl) (λ _. refl, λ _ k. k) h)
+      (four.framed s t refl refl refl (inl refl) (λ _. refl, λ _ k. k, λ _. (refl, refl)) h)
 
   kept-clear_by_daemon : (app : Application) (i : ℕ) → answers i ≡ true → (group mask : ℕ) (s : State) → P s
       → P (clear_by_daemon app i group mask s)

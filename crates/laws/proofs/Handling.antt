@@ -19,6 +19,10 @@ use Rattle.model.specs.Application.{Application, Limits, commands_of, interrupts
 use Rattle.model.specs.Blocks.{edge_of_isr, isr_edges_of, past_branch}
 use Rattle.model.specs.Daemon.{item_of}
 use Rattle.model.specs.Handlers.{handle, serve, inject, pend, pending_of, none_pending, serve_pending, isr, isr_answer, isr_each}
+use Rattle.model.specs.declared.source.SourceOp.{SourceOp}
+use Rattle.model.specs.declared.source.SourceOp.TheVariants.{Arm, Disarm, Raise, Cancel}
+use Rattle.model.specs.Ops.{do_to_source}
+use Rattle.model.specs.Handlers.{can_come, come, note_coming, none_raised_now, raised_now}
 use Rattle.model.specs.Handlers.{interrupt, isr_jump, is_failed, is_tick, tick_interrupt}
 use Rattle.model.specs.Objects.{attempt, fulfil, list_woken, object_after, possible}
 use Rattle.model.specs.Ops.{fail}
@@ -143,6 +147,12 @@ stopped-notify i action s =
     let t : State = with_notification i (notified action (notification_at s i)) s in
     by_test (waits_for_notification (status_at t i)) (λ q. rw q refl) (λ q. rw q refl)
 
+stopped-source : (handler : ℕ) (op : SourceOp) (s : State) → (do_to_source handler op s).stopped ≡ s.stopped
+stopped-source handler Arm s = refl
+stopped-source handler Disarm s = refl
+stopped-source handler (Raise n) s = refl
+stopped-source handler Cancel s = refl
+
 stopped-isr : (app : Application) (handler op_index : ℕ) (op : IsrOp) (last : Option ℕ) (s : State)
     → (isr app handler op_index op last s).stopped ≡ s.stopped
 stopped-isr app handler op_index (isr_op.Do o a) last s = stopped-attempt None o (with_number s.variables last a) s
@@ -151,6 +161,7 @@ stopped-isr app handler op_index (isr_op.Resume i) last s = stopped-resume i s
 stopped-isr app handler op_index (isr_op.GetBits group) last s = refl
 stopped-isr app handler op_index (isr_op.Notify i action) last s = stopped-notify i (notify_with_number s.variables last action) s
 stopped-isr app handler op_index (isr_op.Value op) last s = refl
+stopped-isr app handler op_index (isr_op.Source other op) last s = stopped-source other op s
 stopped-isr app handler op_index (isr_op.Mark value) last s = refl
 stopped-isr app handler op_index (isr_op.Expect condition) last s = refl
 stopped-isr app handler op_index (isr_op.If condition) last s = refl
@@ -212,25 +223,30 @@ module _ (end : End) where
       let next : State = record s { time = s.time + 1; elapsed = s.elapsed + 1 } in
       by_test (holds_ticks s) (λ t. rw t h) (λ t. rw t (stands-all_ready (tasks_of (due next)) next h))
 
-  stands-handled : (app : Application) (handlers : List ℕ) (s : State) → IsStopped s → IsStopped (for_each (handle app) handlers s)
-  stands-handled app [] s h = h
-  stands-handled app (handler ∷ handlers) s h = stands-handled app handlers (handle app handler s) (stands-handle app handler s h)
+  stands-come : (app : Application) (handler : ℕ) (s : State) → IsStopped s → IsStopped (come app handler s)
+  unfolding come
+  stands-come app handler s h = stands-handle app handler (note_coming app handler s) h
+
+  stands-all_come : (app : Application) (handlers : List ℕ) (s : State) → IsStopped s → IsStopped (for_each (come app) handlers s)
+  stands-all_come app [] s h = h
+  stands-all_come app (handler ∷ handlers) s h = stands-all_come app handlers (come app handler s) (stands-come app handler s h)
 
   stands-tick : (app : Application) (s : State) → IsStopped s → IsStopped (tick_interrupt app s)
   unfolding tick_interrupt interrupt
   stands-tick app s h =
-      let come : State = increment_tick s in
-      let t : State = for_each (handle app) (interrupts_at app come.elapsed) come in
-      let k : IsStopped t = stands-handled app (interrupts_at app come.elapsed) come (stands-increment s h) in
+      let ticked : State = increment_tick s in
+      let all : List ℕ = interrupts_at app ticked.elapsed ++ raised_now ticked in
+      let t : State = for_each (come app) all (none_raised_now ticked) in
+      let k : IsStopped t = stands-all_come app all (none_raised_now ticked) (stands-increment s h) in
       by_test (is_held t)
       (λ q. subst IsStopped (sym (when_held slice t q)) k)
       (λ q. subst IsStopped (sym (when_free slice t q)) (stands-slice t k))
 
   stands-handler : (app : Application) (handler : ℕ) (s : State) → IsStopped s
-      → IsStopped (unless_held preempt (handle app handler s))
+      → IsStopped (unless_held preempt (come app handler s))
   stands-handler app handler s h =
-      let t : State = handle app handler s in
-      let k : IsStopped t = stands-handle app handler s h in
+      let t : State = come app handler s in
+      let k : IsStopped t = stands-come app handler s h in
       by_test (is_held t)
       (λ q. subst IsStopped (sym (when_held preempt t q)) k)
       (λ q. subst IsStopped (sym (when_free preempt t q)) (stands-preempt t k))
@@ -243,15 +259,20 @@ module _ (end : End) where
 
   stands-inject : (app : Application) (handler : ℕ) (s : State) → IsStopped s → IsStopped (inject app handler s)
   unfolding inject
-  stands-inject app handler s h = stands-serve app handler s h
+  stands-inject app handler s h = by_test (can_come s handler)
+      (λ t. rw t (stands-serve app handler s h))
+      (λ t. rw t h)
 
   stands-served : (app : Application) (handlers : List ℕ) (s : State) → IsStopped s → IsStopped (for_each (serve app) handlers s)
   stands-served app [] s h = h
   stands-served app (handler ∷ handlers) s h = stands-served app handlers (serve app handler s) (stands-serve app handler s h)
 
-  stands-pended : (handlers : List ℕ) (s : State) → IsStopped s → IsStopped (for_each pend handlers s)
-  stands-pended [] s h = h
-  stands-pended (handler ∷ handlers) s h = stands-pended handlers (pend handler s) h
+  stands-pend : (app : Application) (handler : ℕ) (s : State) → IsStopped s → IsStopped (pend app handler s)
+  stands-pend app handler s h = by_test (can_come s handler) (λ t. rw t h) (λ t. rw t h)
+
+  stands-pended : (app : Application) (handlers : List ℕ) (s : State) → IsStopped s → IsStopped (for_each (pend app) handlers s)
+  stands-pended app [] s h = h
+  stands-pended app (handler ∷ handlers) s h = stands-pended app handlers (pend app handler s) (stands-pend app handler s h)
 
   stands-each : (app : Application) (handlers : List ℕ) (s : State) → IsStopped s → IsStopped (for_each (inject app) handlers s)
   stands-each app [] s h = h
@@ -263,7 +284,7 @@ module _ (end : End) where
   stands_before_step app handlers s h =
       let r : State = record s { log = [] } in
       by_test (is_critical r)
-      (λ q. rw q (stands-pended handlers r h))
+      (λ q. rw q (stands-pended app handlers r h))
       (λ q. rw q (stands-each app handlers (serve_pending app r) (stands-served app (pending_of r) (none_pending r) h)))
 
   -- ---- and a task changes it by a misuse alone
@@ -293,7 +314,7 @@ module _ (end : End) where
       let t : State = record s { time = s.time + n } in
       subst (λ (o : Option End). (o ≡ Some end) ⊎ (is_by_misuse o ≡ true)) (sym (stopped-all_ready (tasks_of (due t)) t)) h
 
-  stands-kept : Keeping StandsOrMisused anyone anyone 0 true 0 true
+  stands-kept : Keeping StandsOrMisused anyone anyone 0 true 0 true true
   stands-kept = record {
     framed = λ s t e n m stops left. stands-framed s t e n m stops;
     moved = λ s i t u remains k. k;

@@ -4,7 +4,7 @@ use Rattle.model.specs.declared.event.End.TheVariants.{Check}
 use Rattle.model.specs.Ops.{calculate, fail}
 use Rattle.model.specs.Step.{act_by_value, call_with_number}
 use Rattle.soundness.proofs.Passing.{by_value}
-use Rattle.std.proofs.Common.{◌≡◌, ◌≤◌, ◌||◌, ◌+◌, ℕ, zero, suc, Bool, true, false, eqb, leb, ltb, List, [], ◌∷◌, Option}
+use Rattle.std.proofs.Common.{◌≡◌, ◌≤◌, ◌||◌, ◌++◌, ◌+◌, ℕ, zero, suc, Bool, true, false, eqb, leb, ltb, List, [], ◌∷◌, Option}
 use Rattle.std.proofs.Common.{Some, None, refl, sym, subst, ◌∙◌, arith}
 use Rattle.std.specs.List.{AllByRecursion, list_any}
 use Rattle.std.specs.Option.{option_eq}
@@ -39,7 +39,11 @@ use Rattle.model.specs.Objects.{possible, answer_to, list_for}
 use Rattle.model.specs.Mutexes.{inherit, after_timeout, give_mutex}
 use Rattle.model.specs.Calls.{try, lock, decide, leave_call, await, do_now}
 use Rattle.model.specs.declared.plan.Injection.{Injection}
-use Rattle.model.specs.Handlers.{handle, interrupt, tick_interrupt, idle, ticks_ahead}
+use Rattle.model.specs.declared.op.Op.TheVariants as op
+use Rattle.model.specs.declared.source.SourceOp.{SourceOp}
+use Rattle.model.specs.declared.source.SourceOp.TheVariants.{Arm, Disarm, Raise, Cancel}
+use Rattle.model.specs.Ops.{control, do_to_source}
+use Rattle.model.specs.Handlers.{come, none_raised_now, raised_now, interrupt, tick_interrupt, idle, ticks_ahead}
 use Rattle.model.specs.Time.{advance, due, increment_tick, jump, sleep, set_previous_wake, wake_due}
 use Rattle.model.specs.Ops.{go_to, answer, use_up, delay, delay_until, expect, open_loop, next_turn, turn, close_turn, branch}
 use Rattle.model.specs.Ops.{skip_branch, leave_loop, stamp, since, with_sections}
@@ -57,7 +61,7 @@ use Rattle.soundness.proofs.Judging.{by_judgement}
 use Rattle.soundness.proofs.Settled.{when_held, when_free, held_as_it_was}
 use Rattle.soundness.proofs.Passing.{held-told, either_way, jumped, jump_come}
 use Rattle.soundness.proofs.Bits.{stays-set}
-use Rattle.soundness.proofs.Handled.{spares-handle}
+use Rattle.soundness.proofs.Handled.{spares-come}
 use Rattle.soundness.proofs.Frames.{Keeps, keeps_both, keeps-interrupt, keeps-wake_due}
 use Rattle.soundness.proofs.Reached.{reached_after}
 use Rattle.soundness.proofs.Begun.{reached_before_step}
@@ -137,9 +141,9 @@ idle-idle app limits s free =
     let n : ℕ = ticks_ahead app limits s in
     either_way IdleAlone app.tickless (jumped app n s) (tick_interrupt app s) (idle-jumped app n s free) (idle-tick app s free)
 
-current-handles : (app : Application) (handlers : List ℕ) (s : State) → (for_each (handle app) handlers s).current ≡ s.current
-current-handles app [] s = refl
-current-handles app (h ∷ hs) s = current-handles app hs (handle app h s) ∙ (spares-handle app h s).current
+current-all_come : (app : Application) (handlers : List ℕ) (s : State) → (for_each (come app) handlers s).current ≡ s.current
+current-all_come app [] s = refl
+current-all_come app (h ∷ hs) s = current-all_come app hs (come app h s) ∙ (spares-come app h s).current
 
 current-increment : (s : State) → (increment_tick s).current ≡ s.current
 unfolding increment_tick advance wake_due
@@ -150,8 +154,8 @@ current-increment s =
 current-told : (app : Application) (s : State) → (interrupt app (increment_tick s)).current ≡ s.current
 unfolding interrupt
 current-told app s =
-    let come : State = increment_tick s in
-    current-handles app (interrupts_at app come.elapsed) come ∙ current-increment s
+    let ticked : State = increment_tick s in
+    current-all_come app (interrupts_at app ticked.elapsed ++ raised_now ticked) (none_raised_now ticked) ∙ current-increment s
 
 current-use_up : (app : Application) (i n : ℕ) (s : State) → (use_up app i n s).current ≡ s.current
 unfolding use_up go_to
@@ -376,9 +380,15 @@ idle-resume_all app i s r =
 idle-judge : (i op_index : ℕ) (s : State) → IdleAlone s → IdleAlone (judge i op_index s)
 idle-judge i op_index s h = by_judgement IdleAlone i op_index s h (λ kind. h)
 
+current-source : (handler : ℕ) (what : SourceOp) (s : State) → (do_to_source handler what s).current ≡ s.current
+current-source handler Arm s = refl
+current-source handler Disarm s = refl
+current-source handler (Raise n) s = refl
+current-source handler Cancel s = refl
+
 idle-act : (app : Application) (i : ℕ) (op : Op) (s : State) → s.current ≡ Some i → IdleAlone (act app i op s)
 unfolding answer go_to open_loop close_turn skip_branch leave_loop stamp since clear call_suspend call_resume suspend_all
-    with_sections calculate call_notify clear_notification
+    with_sections calculate call_notify clear_notification control
 idle-act app i (Work n) s r = idle-work app i (use_up app i n s) (current-use_up app i n s ∙ r)
 idle-act app i (Delay n) s r = idle-delay app i n s r
 idle-act app i (DelayUntil n) s r =
@@ -415,6 +425,7 @@ idle-act app i (NextCommand o) s r = idle-next_command app i o (call_at s i).pha
 idle-act app i Obey s r = idle-obey app i (command_at s i) (call_at s i).phase s r
 idle-act app i SuspendAll s r = still_runs i s (act app i SuspendAll s) r refl
 idle-act app i ResumeAll s r = idle-resume_all app i s r
+idle-act app i (op.Source j what) s r = still_runs i s (control app i j what s) r (current-source j what s)
 idle-act app i EnterCritical s r = still_runs i s (act app i EnterCritical s) r refl
 idle-act app i ExitCritical s r = still_runs i s (act app i ExitCritical s) r refl
 

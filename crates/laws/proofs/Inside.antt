@@ -39,20 +39,68 @@ use Rattle.model.proofs.Lists.{eqb-refl, eqb-same}
 use Rattle.soundness.proofs.Settled.{when_held, when_free, nothing_holds, unlike}
 use Rattle.soundness.proofs.Judging.{by_judgement, not_barred}
 use Rattle.soundness.proofs.Pending.{AreNonePending, begun_critical, begun_open, begun_with, none_still, not_pending}
-use Rattle.soundness.proofs.Pending.{same_sources, sources-step}
+use Rattle.soundness.proofs.Pending.{begun_alone, same_sources}
 use Rattle.soundness.proofs.Begun.{reached_step}
-use Rattle.laws.specs.Sections.{alone, are_critical, is_of_handler}
+use Rattle.std.proofs.lemmas.Option.{slice_get_past}
+use Rattle.std.specs.Option.{option_map, unwrap_or}
+use Rattle.std.proofs.Common.{◌-◌}
+use Rattle.model.specs.declared.op.Op.TheVariants as op
+use Rattle.model.specs.declared.source.SourceOp.{SourceOp}
+use Rattle.model.specs.declared.source.SourceOp.TheVariants.{Arm, Disarm, Raise, Cancel}
+use Rattle.model.specs.Ops.{control, do_to_source}
+use Rattle.model.specs.Application.{Handler}
+use Rattle.model.specs.Switching.{preempt}
+use Rattle.model.specs.Handlers.{apart_of, can_come, come, handle, is_tick, note_coming}
+use Rattle.soundness.proofs.Frames.{keeps-settle, keeps-unless_held}
+use Rattle.soundness.proofs.Passing.{by_op, lasts-act, opens}
+use Rattle.laws.proofs.Sources.{changed_at, changed_twice, in_either_order, marked, marked_again, noted, noted_again, unchanged_at}
+use Rattle.laws.specs.Sections.{alone, are_critical, is_of_handler, made_pending}
 
--- ---- an op looks at no source
+-- ---- a source that becomes pending
 
-module _ (xs : List Source) where
-  -- the same state with these sources
-  abbrev pub resourced : State → State
-  resourced s = record s { sources = xs }
+module _ (app : Application) (handler : ℕ) where
+  -- with the source so changed
+  abbrev with_mark : ℕ → State → State
+  with_mark now s = record s { sources = changed_at (marked app handler now) handler s.sources }
 
-  -- The deed does the same whatever the sources are, and leaves them as they are.
-  abbrev pub IsBlind : (State → State) → State → Type 0
+  made_is : (s : State) → made_pending app handler s ≡ with_mark s.elapsed s
+  made_is s =
+      ap (λ (ys : List Source). record s { sources = ys })
+      (changed_twice (noted app handler s.elapsed) (λ (x : Source). record x { pending = true }) s.sources handler)
+
+  pended_is : (s : State) → can_come s handler ≡ true → pend app handler s ≡ with_mark s.elapsed s
+  pended_is s can = rw can (made_is s)
+
+  not_pended : (s : State) → can_come s handler ≡ false → pend app handler s ≡ s
+  not_pended s not = rw not refl
+
+-- ---- an op does the same whether a source is pending
+
+module _ (mark : Source → Source) (handler : ℕ)
+    (armed : (b : Bool) (x : Source) → mark (record x { armed = b }) ≡ record (mark x) { armed = b })
+    (raised : (o : Option ℕ) (x : Source) → mark (record x { raised = o }) ≡ record (mark x) { raised = o }) where
+  -- the same state with the source so changed
+  abbrev resourced : State → State
+  resourced s = record s { sources = changed_at mark handler s.sources }
+
+  -- The deed does the same before that change and after it.
+  abbrev IsBlind : (State → State) → State → Type 0
   IsBlind deed s = deed (resourced s) ≡ resourced (deed s)
+
+  blind-source : (j : ℕ) (what : SourceOp) (s : State) → IsBlind (do_to_source j what) s
+  blind-source j Arm s =
+      ap (λ (ys : List Source). record s { sources = ys })
+      (in_either_order (λ (x : Source). record x { armed = true }) mark (λ x. sym (armed true x)) s.sources j handler)
+  blind-source j Disarm s =
+      ap (λ (ys : List Source). record s { sources = ys })
+      (in_either_order (λ (x : Source). record x { armed = false }) mark (λ x. sym (armed false x)) s.sources j handler)
+  blind-source j (Raise n) s =
+      ap (λ (ys : List Source). record s { sources = ys })
+      (in_either_order (λ (x : Source). record x { raised = Some (s.elapsed + n) }) mark
+      (λ x. sym (raised (Some (s.elapsed + n)) x)) s.sources j handler)
+  blind-source j Cancel s =
+      ap (λ (ys : List Source). record s { sources = ys })
+      (in_either_order (λ (x : Source). record x { raised = None }) mark (λ x. sym (raised None x)) s.sources j handler)
 
   module _ (app : Application) (i : ℕ) where
     blind-expect : (condition : AnswerCondition) (s : State) → IsBlind (expect app i condition) s
@@ -80,7 +128,7 @@ module _ (xs : List Source) where
 
     -- an op that has its place in a critical section
     blind-act : (op : Op) (s : State) → is_barred op ≡ false → IsBlind (act app i op) s
-    unfolding go_to answer open_loop skip_branch leave_loop stamp since clear with_sections calculate clear_notification
+    unfolding go_to answer open_loop skip_branch leave_loop stamp since clear with_sections calculate clear_notification control
     blind-act (Work n) s t = absurd (cc)
     blind-act (Delay n) s t = absurd (cc)
     blind-act (DelayUntil n) s t = absurd (cc)
@@ -113,6 +161,8 @@ module _ (xs : List Source) where
     blind-act (Resume j) s t = absurd (cc)
     blind-act SuspendAll s t = absurd (cc)
     blind-act ResumeAll s t = absurd (cc)
+    blind-act (op.Source j what) s t =
+        ap (go_to app i ((progress_at s i).op_index + 1) (progress_at s i)) (blind-source j what s)
     blind-act EnterCritical s t = refl
     blind-act ExitCritical s t = refl
     blind-act (NextCommand o) s t = absurd (cc)
@@ -165,14 +215,46 @@ runs_inside app s h open_ idle =
     let free : is_held s ≡ false = subst (RunsIn app s) idle h.runs in
     unlike (sym open_ ∙ (nothing_holds s free).2)
 
-blind-body : (app : Application) (limits : Limits) (xs : List Source) (r : State) → is_critical r ≡ true
-    → (r.current ≡ None → ⊥) → IsBlind xs (body app limits) r
-blind-body app limits xs r open_ runs =
-    ap (λ (t : State). unless_held settle t) (by_current r.current refl)
-    ∙ blind-settled xs (act_current app limits r.current r) where
-      by_current : (c : Option ℕ) → r.current ≡ c → IsBlind xs (act_current app limits c) r
+module _ (app : Application) (handler now : ℕ) where
+  blind-body : (limits : Limits) (r : State) → is_critical r ≡ true → (r.current ≡ None → ⊥)
+      → body app limits (with_mark app handler now r) ≡ with_mark app handler now (body app limits r)
+  blind-body limits r open_ runs =
+      ap (λ (t : State). unless_held settle t) (by_current r.current refl)
+      ∙ blind-settled (marked app handler now) handler (λ b x. refl) (λ o x. refl) (act_current app limits r.current r) where
+        by_current : (c : Option ℕ) → r.current ≡ c
+            → act_current app limits c (with_mark app handler now r) ≡ with_mark app handler now (act_current app limits c r)
+        by_current None e = absurd (runs e)
+        by_current (Some i) e =
+            blind-act_if (marked app handler now) handler (λ b x. refl) (λ o x. refl) app i
+            (op_at app i (progress_at r i).op_index) r open_
+
+-- no tick comes in a section
+elapsed-act : (app : Application) (i : ℕ) (op : Op) (s : State) → is_barred op ≡ false → (act app i op s).elapsed ≡ s.elapsed
+elapsed-act app i op s allowed =
+    by_op (λ (o : Op). is_barred o ≡ false → (act app i o s).elapsed ≡ s.elapsed)
+    (λ n t. absurd (cc)) (λ t. absurd (cc)) (λ t. absurd (cc))
+    (λ t. (opens app i (s.sections + 1) s).elapsed) (λ t. (opens app i (s.sections - 1) s).elapsed)
+    (λ o instant t. (lasts-act app i o s instant).elapsed) op allowed
+
+elapsed-act_if : (app : Application) (i : ℕ) (o : Option Op) (s : State) → is_critical s ≡ true
+    → (act_if app i o s).elapsed ≡ s.elapsed
+elapsed-act_if app i None s open_ = refl
+elapsed-act_if app i (Some op) s open_ = by_kind (misuse s i op) refl where
+  by_kind : (kind : Option Misuse) → misuse s i op ≡ kind → (act_unless app i kind op s).elapsed ≡ s.elapsed
+  by_kind None e =
+      let acted : (act_by_value app i op s).elapsed ≡ s.elapsed =
+      by_value (λ (t : State). t.elapsed ≡ s.elapsed) app i op s refl (elapsed-act app i op s (not_barred s i op open_ e)) in
+      by_judgement (λ (t : State). t.elapsed ≡ s.elapsed) i (progress_at s i).op_index (act_by_value app i op s) acted
+      (λ kind. acted)
+  by_kind (Some kind) e = refl
+
+elapsed-body : (app : Application) (limits : Limits) (r : State) → is_critical r ≡ true → (r.current ≡ None → ⊥)
+    → (body app limits r).elapsed ≡ r.elapsed
+elapsed-body app limits r open_ runs =
+    (keeps-unless_held settle (act_current app limits r.current r) keeps-settle).elapsed ∙ by_current r.current refl where
+      by_current : (c : Option ℕ) → r.current ≡ c → (act_current app limits c r).elapsed ≡ r.elapsed
       by_current None e = absurd (runs e)
-      by_current (Some i) e = blind-act_if xs app i (op_at app i (progress_at r i).op_index) r open_
+      by_current (Some i) e = elapsed-act_if app i (op_at app i (progress_at r i).op_index) r open_
 
 -- a step by its beginning
 step_is : (app : Application) (limits : Limits) (handlers : List ℕ) (s r : State) → before_step app handlers s ≡ r
@@ -184,57 +266,77 @@ module _ (app : Application) (limits : Limits) (s : State) (h : IsState app s) (
   alone_inside : step app limits [] s ≡ record (body app limits (record s { log = [] })) { steps = s.steps + 1 }
   alone_inside = step_is app limits [] s (record s { log = [] }) (begun_critical app [] s open_)
 
-  -- with other sources
-  blind-step : (xs : List Source) → step app limits [] (record s { sources = xs }) ≡ record (step app limits [] s) { sources = xs }
-  blind-step xs =
-      let r : State = record s { log = [] } in
-      step_is app limits [] (record s { sources = xs }) (record r { sources = xs })
-      (begun_critical app [] (record s { sources = xs }) open_)
-      ∙ ap (λ (t : State). record t { steps = s.steps + 1 }) (blind-body app limits xs r open_ (runs_inside app s h open_))
-      ∙ ap (λ (t : State). record t { sources = xs }) (sym alone_inside)
-
-  same_inside : (step app limits [] s).sources ≡ s.sources
-  same_inside = sources-step app limits [] s ∙ ap (λ (t : State). t.sources) (begun_critical app [] s open_)
-
-  pended_sources : (handler : ℕ) → (pend handler (step app limits [] s)).sources ≡ (pend handler s).sources
-  pended_sources handler =
-      ap (λ (xs : List Source). set xs handler (record (get_or xs handler no_source) { pending = true })) same_inside
+  pub elapsed_inside : (step app limits [] s).elapsed ≡ s.elapsed
+  elapsed_inside =
+      ap (λ (t : State). t.elapsed) alone_inside
+      ∙ elapsed-body app limits (record s { log = [] }) open_ (runs_inside app s h open_)
 
   -- One that is pending stays so.
-  pub still_pending : (handler : ℕ) → step app limits [] (pend handler s) ≡ pend handler (step app limits [] s)
-  still_pending handler =
-      blind-step (pend handler s).sources
-      ∙ ap (λ (xs : List Source). record (step app limits [] s) { sources = xs }) (sym (pended_sources handler))
-
-  -- One that is injected becomes so.
-  pub becomes_pending : (handler : ℕ) → step app limits (handler ∷ []) s ≡ pend handler (step app limits [] s)
-  becomes_pending handler =
+  still_pending : (handler now : ℕ)
+      → step app limits [] (with_mark app handler now s) ≡ with_mark app handler now (step app limits [] s)
+  still_pending handler now =
       let r : State = record s { log = [] } in
-      step_is app limits (handler ∷ []) s (pend handler r) (begun_critical app (handler ∷ []) s open_)
+      step_is app limits [] (with_mark app handler now s) (with_mark app handler now r)
+      (begun_critical app [] (with_mark app handler now s) open_)
       ∙ ap (λ (t : State). record t { steps = s.steps + 1 })
-      (blind-body app limits (pend handler s).sources r open_ (runs_inside app s h open_))
-      ∙ ap (λ (t : State). record t { sources = (pend handler s).sources }) (sym alone_inside)
-      ∙ ap (λ (xs : List Source). record (step app limits [] s) { sources = xs }) (sym (pended_sources handler))
+      (blind-body app handler now limits r open_ (runs_inside app s h open_))
+      ∙ ap (with_mark app handler now) (sym alone_inside)
+
+  -- One that is injected becomes so, if it can come.
+  becomes_pending : (handler : ℕ) → can_come s handler ≡ true
+      → step app limits (handler ∷ []) s ≡ with_mark app handler s.elapsed (step app limits [] s)
+  becomes_pending handler can =
+      let r : State = record s { log = [] } in
+      step_is app limits (handler ∷ []) s (with_mark app handler s.elapsed r)
+      (begun_critical app (handler ∷ []) s open_ ∙ pended_is app handler r can)
+      ∙ ap (λ (t : State). record t { steps = s.steps + 1 })
+      (blind-body app handler s.elapsed limits r open_ (runs_inside app s h open_))
+      ∙ ap (with_mark app handler s.elapsed) (sym alone_inside)
+
+  -- Otherwise nothing comes of it.
+  pub comes_to_nothing : (handler : ℕ) → can_come s handler ≡ false → step app limits (handler ∷ []) s ≡ step app limits [] s
+  comes_to_nothing handler not =
+      let r : State = record s { log = [] } in
+      step_is app limits (handler ∷ []) s r (begun_critical app (handler ∷ []) s open_ ∙ not_pended app handler r not)
+      ∙ sym alone_inside
 
 and_both : (a b : Bool) → a && b ≡ true → (a ≡ true) × (b ≡ true)
 and_both true b e = (refl, e)
 and_both false b e = absurd (cc)
 
 module _ (app : Application) (formed : IsWellFormed app) (limits : Limits) (handler : ℕ) where
-  stays_pending : (n : ℕ) (s : State) → IsState app s → are_critical app limits n s ≡ true
-      → alone app limits n (pend handler s) ≡ pend handler (alone app limits n s)
-  stays_pending zero s h e = refl
-  stays_pending (suc n) s h e =
+  stays_pending : (now n : ℕ) (s : State) → IsState app s → are_critical app limits n s ≡ true
+      → alone app limits n (with_mark app handler now s) ≡ with_mark app handler now (alone app limits n s)
+  stays_pending now zero s h e = refl
+  stays_pending now (suc n) s h e =
       let both = and_both (is_critical s) (are_critical app limits n (step app limits [] s)) e in
-      ap (alone app limits n) (still_pending app limits s h both.0 handler)
-      ∙ stays_pending n (step app limits [] s) (reached_step app formed limits [] s h) both.1
+      ap (alone app limits n) (still_pending app limits s h both.0 handler now)
+      ∙ stays_pending now n (step app limits [] s) (reached_step app formed limits [] s h) both.1
+
+  elapsed_alone : (n : ℕ) (s : State) → IsState app s → are_critical app limits n s ≡ true
+      → (alone app limits n s).elapsed ≡ s.elapsed
+  elapsed_alone zero s h e = refl
+  elapsed_alone (suc n) s h e =
+      let both = and_both (is_critical s) (are_critical app limits n (step app limits [] s)) e in
+      elapsed_alone n (step app limits [] s) (reached_step app formed limits [] s h) both.1
+      ∙ elapsed_inside app limits s h both.0
 
   pub pending_meanwhile : (n : ℕ) (s : State) → IsState app s → are_critical app limits (suc n) s ≡ true
-      → alone app limits n (step app limits (handler ∷ []) s) ≡ pend handler (alone app limits (suc n) s)
-  pending_meanwhile n s h e =
+      → can_come s handler ≡ true
+      → alone app limits n (step app limits (handler ∷ []) s) ≡ made_pending app handler (alone app limits (suc n) s)
+  pending_meanwhile n s h e can =
       let both = and_both (is_critical s) (are_critical app limits n (step app limits [] s)) e in
-      ap (alone app limits n) (becomes_pending app limits s h both.0 handler)
-      ∙ stays_pending n (step app limits [] s) (reached_step app formed limits [] s h) both.1
+      let last : State = alone app limits (suc n) s in
+      ap (alone app limits n) (becomes_pending app limits s h both.0 handler can)
+      ∙ stays_pending s.elapsed n (step app limits [] s) (reached_step app formed limits [] s h) both.1
+      ∙ ap (λ (now : ℕ). with_mark app handler now last) (sym (elapsed_alone (suc n) s h e))
+      ∙ sym (made_is app handler last)
+
+  pub nothing_meanwhile : (n : ℕ) (s : State) → IsState app s → are_critical app limits (suc n) s ≡ true
+      → can_come s handler ≡ false → alone app limits n (step app limits (handler ∷ []) s) ≡ alone app limits (suc n) s
+  nothing_meanwhile n s h e not =
+      let both = and_both (is_critical s) (are_critical app limits n (step app limits [] s)) e in
+      ap (alone app limits n) (comes_to_nothing app limits s h both.0 handler not)
 
 -- ---- the first step behind it
 
@@ -253,59 +355,104 @@ only_one p a (suc n) i le l is none = by_test (eqb a i)
       none_after b zero l = refl
       none_after b (suc m) l = rw (none b (λ e. omega arith)) (none_after (b + 1) m (omega arith))
 
-cleared_again : (xs : List Source) (i : ℕ) → AreNonePending xs
-    → map (λ (x : Source). record x { pending = false }) (set xs i (record (get_or xs i no_source) { pending = true })) ≡ xs
-cleared_again [] i h = refl
-cleared_again (x ∷ xs) zero h = same_sources (x ∷ xs) h
-cleared_again (x ∷ xs) (suc i) h =
-    ap (λ (b : Bool). record x { pending = b } ∷ map (λ (y : Source). record y { pending = false })
-    (set xs i (record (get_or xs i no_source) { pending = true }))) (sym h.0)
-    ∙ ap (λ (ys : List Source). x ∷ ys) (cleared_again xs i h.1)
+module _ (app : Application) (handler : ℕ) where
+  cleared_again : (now : ℕ) (xs : List Source) (i : ℕ) → AreNonePending xs
+      → map (λ (x : Source). record x { pending = false }) (changed_at (marked app handler now) i xs)
+      ≡ changed_at (noted app handler now) i xs
+  cleared_again now [] i h = refl
+  cleared_again now (x ∷ xs) zero h =
+      ap (λ (b : Bool). record (noted app handler now x) { pending = b } ∷ map (λ (y : Source). record y { pending = false }) xs)
+      (sym h.0)
+      ∙ ap (λ (ys : List Source). noted app handler now x ∷ ys) (same_sources xs h.1)
+  cleared_again now (x ∷ xs) (suc i) h =
+      ap (λ (b : Bool). record x { pending = b } ∷ map (λ (y : Source). record y { pending = false })
+      (changed_at (marked app handler now) i xs)) (sym h.0)
+      ∙ ap (λ (ys : List Source). x ∷ ys) (cleared_again now xs i h.1)
+
+  -- A coming that is noted twice at an elapsed tick is noted once.
+  noted_twice : (s : State) → note_coming app handler (note_coming app handler s) ≡ note_coming app handler s
+  noted_twice s =
+      ap (λ (ys : List Source). record s { sources = ys })
+      (changed_twice (noted app handler s.elapsed) (noted app handler s.elapsed) s.sources handler
+      ∙ ap (set s.sources handler) (noted_again app handler s.elapsed (source_at s handler)))
+
+  -- That of the tick isn't noted.
+  tick_unnoted : is_tick app handler ≡ true → (s : State) → note_coming app handler s ≡ s
+  tick_unnoted is s =
+      let last : handler ≡ length app.handlers = eqb-same handler (length app.handlers) is in
+      let any : apart_of app handler ≡ 0 =
+      ap (λ (o : Option Handler). unwrap_or (option_map (λ (h : Handler). h.apart) o) 0)
+      (slice_get_past app.handlers handler (omega arith)) in
+      ap (λ (ys : List Source). record s { sources = ys })
+      (unchanged_at (noted app handler s.elapsed) (λ x. rw any refl) s.sources handler)
+
+  serves_the_same : (s : State) → serve app handler (note_coming app handler s) ≡ serve app handler s
+  unfolding serve come
+  serves_the_same s = by_test (is_tick app handler)
+      (λ t. ap (serve app handler) (tick_unnoted t s))
+      (λ t. rw t (ap (λ (u : State). unless_held preempt (handle app handler u)) (noted_twice s)))
 
 module _ (app : Application) (limits : Limits) (handler : ℕ) (s : State) (there : handler < length s.sources)
     (none : IsNonePending s) (shut : is_critical s ≡ false) where
-  abbrev marked : List Source
-  marked = set s.sources handler (record (source_at s handler) { pending = true })
+  abbrev made : State
+  made = with_mark app handler s.elapsed s
 
-  alone_pending : pending_of (pend handler s) ≡ handler ∷ []
+  alone_pending : pending_of made ≡ handler ∷ []
   alone_pending =
-      let p : ℕ → Bool = λ source. (get_or marked source no_source).pending in
-      let long : length marked ≡ length s.sources = length-set s.sources handler (record (source_at s handler) { pending = true })
-      in
-      only_one p 0 (length marked) handler (omega arith) (omega arith)
-      (ap (λ (x : Source). x.pending)
-      (get_or-set_same s.sources handler (record (source_at s handler) { pending = true }) no_source there))
+      let mark : Source = marked app handler s.elapsed (source_at s handler) in
+      let p : ℕ → Bool = λ source. (get_or (set s.sources handler mark) source no_source).pending in
+      let long : length (set s.sources handler mark) ≡ length s.sources = length-set s.sources handler mark in
+      only_one p 0 (length (set s.sources handler mark)) handler (omega arith) (omega arith)
+      (ap (λ (x : Source). x.pending) (get_or-set_same s.sources handler mark no_source there))
       (λ j apart.
-      ap (λ (x : Source). x.pending)
-      (get_or-set_other s.sources handler j (record (source_at s handler) { pending = true }) no_source apart)
+      ap (λ (x : Source). x.pending) (get_or-set_other s.sources handler j mark no_source apart)
       ∙ not_pending s.sources j none)
 
-  as_injected : before_step app [] (pend handler s) ≡ before_step app (handler ∷ []) s
+  as_injected : can_come s handler ≡ true → before_step app [] made ≡ before_step app (handler ∷ []) s
   unfolding inject
-  as_injected =
-      let r : State = record (pend handler s) { log = [] } in
-      begun_open app [] (pend handler s) shut
-      ∙ ap (λ (handlers : List ℕ). for_each (serve app) handlers (none_pending r)) alone_pending
-      ∙ ap (λ (ys : List Source). serve app handler (record r { sources = ys })) (cleared_again s.sources handler none)
-      ∙ sym (begun_with app (handler ∷ []) s none shut)
+  as_injected can =
+      let r : State = record s { log = [] } in
+      begun_open app [] made shut
+      ∙ ap (λ (handlers : List ℕ). for_each (serve app) handlers (none_pending (record made { log = [] }))) alone_pending
+      ∙ ap (λ (ys : List Source). serve app handler (record r { sources = ys }))
+      (cleared_again app handler s.elapsed s.sources handler none)
+      ∙ serves_the_same app handler r
+      ∙ sym (begun_with app (handler ∷ []) s none shut ∙ rw can refl)
 
-  pub comes_at_the_exit : step app limits [] (pend handler s) ≡ step app limits (handler ∷ []) s
+  not_injected : can_come s handler ≡ false → before_step app [] s ≡ before_step app (handler ∷ []) s
+  unfolding inject
+  not_injected not = begun_alone app s none ∙ sym (begun_with app (handler ∷ []) s none shut ∙ rw not refl)
+
+  pub comes_at_the_exit : step app limits [] (pend app handler s) ≡ step app limits (handler ∷ []) s
   comes_at_the_exit =
-      step_is app limits [] (pend handler s) (before_step app (handler ∷ []) s) as_injected
-      ∙ sym (step_is app limits (handler ∷ []) s (before_step app (handler ∷ []) s) refl)
+      let begun : State = before_step app (handler ∷ []) s in
+      let injected : step app limits (handler ∷ []) s ≡ record (body app limits begun) { steps = s.steps + 1 } =
+      step_is app limits (handler ∷ []) s begun refl in
+      by_test (can_come s handler)
+      (λ can.
+      ap (step app limits []) (pended_is app handler s can)
+      ∙ step_is app limits [] made begun (as_injected can) ∙ sym injected)
+      (λ not.
+      ap (step app limits []) (not_pended app handler s not)
+      ∙ step_is app limits [] s begun (not_injected not) ∙ sym injected)
 
 -- ---- once
 
-marked_twice : (ys : List Source) (i : ℕ)
-    → set (set ys i (record (get_or ys i no_source) { pending = true })) i
-    (record (get_or (set ys i (record (get_or ys i no_source) { pending = true })) i no_source) { pending = true })
-    ≡ set ys i (record (get_or ys i no_source) { pending = true })
-marked_twice [] i = refl
-marked_twice (x ∷ ys) zero = refl
-marked_twice (x ∷ ys) (suc i) = ap (λ (zs : List Source). x ∷ zs) (marked_twice ys i)
+pub pended_once : (app : Application) (handler : ℕ) (s : State) → pend app handler (pend app handler s) ≡ pend app handler s
+pended_once app handler s = by_test (can_come s handler)
+    (λ can. let once = pended_is app handler s can in ap (pend app handler) once ∙ again ∙ sym once)
+    (λ not. ap (pend app handler) (not_pended app handler s not)) where
+      made : State
+      made = with_mark app handler s.elapsed s
 
-pub pended_once : (handler : ℕ) (s : State) → pend handler (pend handler s) ≡ pend handler s
-pended_once handler s = ap (λ (ys : List Source). record s { sources = ys }) (marked_twice s.sources handler)
+      again : pend app handler made ≡ made
+      again = by_test (can_come made handler)
+          (λ can.
+          pended_is app handler made can
+          ∙ ap (λ (ys : List Source). record s { sources = ys })
+          (changed_twice (marked app handler s.elapsed) (marked app handler s.elapsed) s.sources handler
+          ∙ ap (set s.sources handler) (marked_again app handler s.elapsed (source_at s handler))))
+          (λ not. not_pended app handler made not)
 
 -- ---- all that came to nothing else
 
@@ -332,6 +479,12 @@ called_by : (i op_index : ℕ) (a : Option ℕ) → is_of_handler (called i op_i
 called_by i op_index (Some n) = refl
 called_by i op_index None = refl
 
+log-source : (j : ℕ) (what : SourceOp) (s : State) → (do_to_source j what s).log ≡ s.log
+log-source j Arm s = refl
+log-source j Disarm s = refl
+log-source j (Raise n) s = refl
+log-source j Cancel s = refl
+
 module _ (app : Application) (i : ℕ) where
   tells-answer : (a : Option ℕ) (s : State) → AreTasks s.log → AreTasks (answer app i a s).log
   unfolding answer go_to
@@ -357,7 +510,7 @@ module _ (app : Application) (i : ℕ) where
   tells-branch condition s h = by_test (holds s.variables condition (progress_at s i).answer) (λ t. rw t h) (λ t. rw t h)
 
   tells-act : (op : Op) (s : State) → is_barred op ≡ false → AreTasks s.log → AreTasks (act app i op s).log
-  unfolding go_to open_loop close_turn skip_branch leave_loop stamp since clear with_sections calculate clear_notification
+  unfolding go_to open_loop close_turn skip_branch leave_loop stamp since clear with_sections calculate clear_notification control
   tells-act (Work n) s t h = absurd (cc)
   tells-act (Delay n) s t h = absurd (cc)
   tells-act (DelayUntil n) s t h = absurd (cc)
@@ -390,6 +543,7 @@ module _ (app : Application) (i : ℕ) where
   tells-act (Resume j) s t h = absurd (cc)
   tells-act SuspendAll s t h = absurd (cc)
   tells-act ResumeAll s t h = absurd (cc)
+  tells-act (op.Source j what) s t h = subst AreTasks (sym (log-source j what s)) h
   tells-act EnterCritical s t h = h
   tells-act ExitCritical s t h = h
   tells-act (NextCommand o) s t h = absurd (cc)
@@ -417,25 +571,33 @@ tells-settled s h = by_test (is_held s)
     (λ free. subst (λ (t : State). AreTasks t.log) (sym (when_free settle s free)) (tells-settle s h))
 
 -- handlers that become pending report nothing
-pended_all : (handlers : List ℕ) (s : State)
-    → ((for_each pend handlers s).log ≡ s.log) × ((for_each pend handlers s).current ≡ s.current)
-    × ((for_each pend handlers s).sections ≡ s.sections)
-pended_all [] s = (refl, refl, refl)
-pended_all (handler ∷ handlers) s = pended_all handlers (pend handler s)
+pended_one : (app : Application) (handler : ℕ) (s : State)
+    → ((pend app handler s).log ≡ s.log) × ((pend app handler s).current ≡ s.current)
+    × ((pend app handler s).sections ≡ s.sections)
+pended_one app handler s = by_test (can_come s handler) (λ t. rw t (refl, refl, refl)) (λ t. rw t (refl, refl, refl))
+
+pended_all : (app : Application) (handlers : List ℕ) (s : State)
+    → ((for_each (pend app) handlers s).log ≡ s.log) × ((for_each (pend app) handlers s).current ≡ s.current)
+    × ((for_each (pend app) handlers s).sections ≡ s.sections)
+pended_all app [] s = (refl, refl, refl)
+pended_all app (handler ∷ handlers) s =
+    let one = pended_one app handler s in
+    let more = pended_all app handlers (pend app handler s) in
+    (more.0 ∙ one.0, more.1 ∙ one.1, more.2 ∙ one.2)
 
 pub none_inside : (app : Application) (limits : Limits) (handlers : List ℕ) (s : State) → IsState app s → is_critical s ≡ true
     → AreTasks (step app limits handlers s).log
 none_inside app limits handlers s h open_ =
     let r : State = record s { log = [] } in
-    let begun : State = for_each pend handlers r in
-    let same = pended_all handlers r in
+    let begun : State = for_each (pend app) handlers r in
+    let same = pended_all app handlers r in
     subst (λ (t : State). AreTasks t.log) (sym (step_is app limits handlers s begun (begun_critical app handlers s open_)))
     (tells-settled (act_current app limits begun.current begun)
     (by_current begun.current same.1 (ap (λ n. ltb 0 n) same.2 ∙ open_) (subst AreTasks (sym same.0) tt))) where
-      by_current : (c : Option ℕ) → c ≡ s.current → is_critical (for_each pend handlers (record s { log = [] })) ≡ true
-          → AreTasks (for_each pend handlers (record s { log = [] })).log
-          → AreTasks (act_current app limits c (for_each pend handlers (record s { log = [] }))).log
+      by_current : (c : Option ℕ) → c ≡ s.current → is_critical (for_each (pend app) handlers (record s { log = [] })) ≡ true
+          → AreTasks (for_each (pend app) handlers (record s { log = [] })).log
+          → AreTasks (act_current app limits c (for_each (pend app) handlers (record s { log = [] }))).log
       by_current None e open_now h0 = absurd (runs_inside app s h open_ (sym e))
       by_current (Some i) e open_now h0 =
-          let begun : State = for_each pend handlers (record s { log = [] }) in
+          let begun : State = for_each (pend app) handlers (record s { log = [] }) in
           tells-act_if app i (op_at app i (progress_at begun i).op_index) begun open_now h0

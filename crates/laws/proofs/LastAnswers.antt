@@ -31,7 +31,7 @@ module _ (i : ℕ) (last : Option ℕ) where
   HasAnswer s = (progress_at s i).answer ≡ last
 
   has-framed : (s t : State) → t.tasks ≡ s.tasks → t.next_ticket ≡ s.next_ticket
-      → t.time ≡ s.time → Stops s.stopped t.stopped → AreLeft 0 true 0 true s t → HasAnswer s → HasAnswer t
+      → t.time ≡ s.time → Stops s.stopped t.stopped → AreLeft 0 true 0 true true s t → HasAnswer s → HasAnswer t
   has-framed s t e n m stops left h = ap (λ (ts : List Task). (get_or ts i no_task).progress.answer) e ∙ h
 
   -- one task changes, and this one's last answer stays
@@ -66,7 +66,7 @@ module _ (i : ℕ) (last : Option ℕ) where
       (λ t. let here : running ≡ Some i = runs ∙ ap Some (sym (eqb-same i j t)) in absurd (elsewhere here))
       (λ t. ap not t)
 
-  has-kept : Keeping HasAnswer anyone others 0 true 0 true
+  has-kept : Keeping HasAnswer anyone others 0 true 0 true true
   has-kept = record {
     framed = has-framed;
     moved = has-moved;

@@ -12,7 +12,7 @@ use Rattle.model.specs.Switching.{is_ready, is_off, choose, settle, slice, holds
 use Rattle.model.specs.Switching.{is_held_by_task, is_scheduler_suspended}
 use Rattle.model.specs.Time.{increment_tick}
 use Rattle.model.specs.Ops.{go_to, use_up}
-use Rattle.model.specs.Handlers.{interrupt, serve, inject, tick_interrupt}
+use Rattle.model.specs.Handlers.{can_come, interrupt, serve, inject, tick_interrupt}
 use Rattle.model.specs.declared.event.Misuse.{Misuse}
 use Rattle.model.specs.Step.{is_ended, judge, act_if, act_unless, misuse, act_current, before_step, step}
 use Rattle.model.specs.Invariant.{Suspension, suspension_of, IsNonePending}
@@ -21,7 +21,7 @@ use Rattle.model.proofs.Lists.{eqb-apart, eqb-refl}
 use Rattle.soundness.proofs.Settled.{IsSettled, when_held, when_free, no_task_holds, unlike}
 use Rattle.soundness.proofs.Frames.{keeps-use_up}
 use Rattle.soundness.proofs.Passing.{held-told, suspension-tick}
-use Rattle.soundness.proofs.Pending.{AreNonePending, begun_alone, begun_with}
+use Rattle.soundness.proofs.Pending.{begun_alone, begun_with, none_by}
 use Rattle.soundness.proofs.Judging.{judged_calm, not_ended}
 use Rattle.soundness.proofs.Going.{spares-interrupt}
 use Rattle.soundness.proofs.Ticked.{settled_tick}
@@ -156,18 +156,24 @@ module _ (app : Application) (limits : Limits) (i ticks : ℕ) where
   unfolding ticked used
   worked s w open_ = works s w open_
 
-  the_tick : (s : State) → inject app (length app.handlers) s ≡ tick_interrupt app s
+  the_tick : (s : State) → can_come s (length app.handlers) ≡ true → inject app (length app.handlers) s ≡ tick_interrupt app s
   unfolding inject serve
-  the_tick s = rw (eqb-refl (length app.handlers)) refl
+  the_tick s can = rw (can, eqb-refl (length app.handlers)) refl
+
+  -- A step of the work leaves when the tick can come.
+  can_still : (s : State) → can_come (use_up app i ticks s) (length app.handlers) ≡ can_come s (length app.handlers)
+  unfolding use_up go_to
+  can_still s = by_test (eqb ((progress_at s i).used + 1) ticks) (λ t. rw t refl) (λ t. rw t refl)
 
   unlogged : (s : State) → record (use_up app i ticks s) { log = [] } ≡ use_up app i ticks (record s { log = [] })
   unfolding use_up go_to
   unlogged s = by_test (eqb ((progress_at s i).used + 1) ticks) (λ t. rw t refl) (λ t. rw t refl)
 
-  pub is_a_tick_of_work : (s : State) → WorksOn app s i ticks → is_critical s ≡ false → IsNonePending s
+  pub is_a_tick_of_work : (s : State) → WorksOn app s i ticks → can_come s (length app.handlers) ≡ true
+      → is_critical s ≡ false → IsNonePending s
       → with_steps (s.steps + 1) (before_step app (length app.handlers ∷ []) (use_up app i ticks s)) ≡ step app limits [] s
   unfolding step
-  is_a_tick_of_work s w open_ none =
+  is_a_tick_of_work s w can open_ none =
       let r : State = record s { log = [] } in
       let on : WorksOn app r i ticks = record { runs = w.runs; ready = w.ready; op = w.op; left = w.left } in
       let k = keeps-use_up app i ticks s in
@@ -179,7 +185,7 @@ module _ (app : Application) (limits : Limits) (i ticks : ℕ) where
       ap (λ (x : Suspension). ltb 0 x.sections) k.suspension ∙ open_ in
       let come : before_step app (length app.handlers ∷ []) (use_up app i ticks s) ≡ tick_interrupt app (use_up app i ticks r) =
       begun_with app (length app.handlers ∷ []) (use_up app i ticks s)
-      (subst AreNonePending (sym k.sources) none) open_then
-      ∙ the_tick (record (use_up app i ticks s) { log = [] })
+      (none_by s (use_up app i ticks s) k.pending none) open_then
+      ∙ the_tick (record (use_up app i ticks s) { log = [] }) (can_still s ∙ can)
       ∙ ap (tick_interrupt app) (unlogged s) in
       ap (with_steps (s.steps + 1)) (come ∙ sym acted)

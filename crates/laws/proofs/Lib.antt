@@ -23,3 +23,8 @@ pub mod Answering
 pub mod LastAnswers
 pub mod Notifying
 pub mod Lengthening
+pub mod Sources
+pub mod Touching
+pub mod Armed
+pub mod Apart
+pub mod Raised

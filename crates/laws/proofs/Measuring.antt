@@ -108,7 +108,7 @@ module _ (i : ℕ) (noted : ℕ) where
       (λ t. let here : DoesNoStamp app s j = subst (DoesNoStamp app s) (eqb-same i j t) never in absurd (here runs is))
       (λ t. ap not t)
 
-  has-kept : Keeping HasStamp others anyone 0 true 0 true
+  has-kept : Keeping HasStamp others anyone 0 true 0 true true
   has-kept = record {
     framed = λ s t e n m stops left. has-framed s t e n m stops;
     moved = has-moved;

@@ -275,7 +275,7 @@ module _ (i : ℕ) where
   IsPending s = (notification_at s i).pending ≡ true
 
   is-framed : (s t : State) → t.tasks ≡ s.tasks → t.next_ticket ≡ s.next_ticket
-      → t.time ≡ s.time → Stops s.stopped t.stopped → AreLeft 0 true i false s t → IsPending s → IsPending t
+      → t.time ≡ s.time → Stops s.stopped t.stopped → AreLeft 0 true i false true s t → IsPending s → IsPending t
   is-framed s t e n m stops left h = left.1 refl h
 
   is-passed : (n : ℕ) (s : State) → NoneBetween n s → IsPending s → IsPending (wake_due (record s { time = s.time + n }))
@@ -284,7 +284,7 @@ module _ (i : ℕ) where
       let t : State = record s { time = s.time + n } in
       ap (λ (ns : ℕ → Notification). (ns i).pending) (same-all_ready (tasks_of (due t)) t) ∙ h
 
-  is-kept : Keeping IsPending anyone anyone 0 true i false
+  is-kept : Keeping IsPending anyone anyone 0 true i false true
   is-kept = record {
     framed = is-framed;
     moved = λ s j t u remains k. k;

@@ -5,12 +5,13 @@ use Rattle.std.specs.List.{AllByRecursion, Contains, cons_option, filter, filter
 use Rattle.std.specs.Prelude.{map}
 use Rattle.std.specs.Option.{IfSome, option_map}
 use Rattle.std.proofs.lemmas.Bool.{leb-true, lt-ltb, ltb-true}
+use Rattle.std.proofs.lemmas.List.{append_assoc}
 use Rattle.std.proofs.lemmas.List.Elements.{Contains-append_cases}
 use Rattle.model.specs.Application.{Application, Interrupt, Limits}
-use Rattle.model.specs.State.{State, Task, wake_time_of, status_at, no_task}
+use Rattle.model.specs.State.{State, Source, source_at, no_source, Task, wake_time_of, status_at, no_task}
 use Rattle.model.specs.Switching.{slice, unless_held, holds_ticks}
 use Rattle.model.specs.Time.{advance, increment_tick, jump}
-use Rattle.model.specs.Handlers.{interrupt, tick_interrupt, idle, ticks_ahead, ticks_to_wake, ticks_to_interrupt}
+use Rattle.model.specs.Handlers.{interrupt, tick_interrupt, idle, ticks_ahead, ticks_to_wake, ticks_to_interrupt, ticks_to_raised}
 use Rattle.model.proofs.Sorting.{by_test}
 use Rattle.soundness.proofs.Frames.{Keeps, keeps_both, keeps-interrupt, keeps-slice, keeps-unless_held, keeps-wake_due}
 use Rattle.soundness.proofs.Passing.{either_way, elapsed-tick, idle_jumps, jumped, jump_come}
@@ -59,16 +60,24 @@ least_wake now (t ∷ ts) ys (suc i) a =
 
 -- how many ticks it is until something happens, or none
 abbrev first_ahead : Application → Limits → State → ℕ
-first_ahead app limits s = fold min (limits.ticks - s.elapsed) (ticks_to_wake s ++ ticks_to_interrupt app s)
+first_ahead app limits s =
+    fold min (limits.ticks - s.elapsed) (ticks_to_wake s ++ (ticks_to_interrupt app s ++ ticks_to_raised s))
+
+-- Idle sleeps for so many, or for one.
+ahead : (app : Application) (limits : Limits) (s : State) → ticks_ahead app limits s ≡ max 1 (first_ahead app limits s)
+ahead app limits s =
+    ap (λ (ds : List ℕ). max 1 (fold min (limits.ticks - s.elapsed) ds))
+    (append_assoc (ticks_to_wake s) (ticks_to_interrupt app s) (ticks_to_raised s))
 
 -- Idle jumps over nobody's wake time.
 pub none_ahead : (app : Application) (limits : Limits) (s : State) → NoneBetween (ticks_ahead app limits s) s
 none_ahead app limits s i =
-    by_time (wake_time_of (status_at s i)) (least_wake s.time s.tasks (ticks_to_interrupt app s) i (limits.ticks - s.elapsed)) where
+    by_time (wake_time_of (status_at s i))
+    (least_wake s.time s.tasks (ticks_to_interrupt app s ++ ticks_to_raised s) i (limits.ticks - s.elapsed)) where
       by_time : (o : Option ℕ) → IfSome o (λ w. first_ahead app limits s ≤ w - s.time)
           → IfSome o (λ w. s.time < w → s.time + ticks_ahead app limits s ≤ w)
       by_time None h = tt
-      by_time (Some w) h = λ l. omega arith
+      by_time (Some w) h = λ l. let e = ahead app limits s in omega arith
 
 -- ---- base interrupts
 
@@ -92,20 +101,20 @@ past_more : (elapsed d : ℕ) (ds : List ℕ) (is : List Interrupt) → IsLeastP
 past_more elapsed d ds [] h = tt
 past_more elapsed d ds (i ∷ is) h = ((λ l a. h.0 l (min a d)), past_more elapsed d ds is h.1)
 
-least_past : (elapsed : ℕ) (is : List Interrupt) → IsLeastPast elapsed (to_come elapsed is) is
-least_past elapsed [] = tt
-least_past elapsed (i ∷ is) = by_test (ltb elapsed i.tick)
+least_past : (elapsed : ℕ) (is : List Interrupt) (ys : List ℕ) → IsLeastPast elapsed (to_come elapsed is ++ ys) is
+least_past elapsed [] ys = tt
+least_past elapsed (i ∷ is) ys = by_test (ltb elapsed i.tick)
     (λ t.
-    let more : to_come elapsed (i ∷ is) ≡ (i.tick - elapsed) ∷ to_come elapsed is = rw t refl in
+    let more : to_come elapsed (i ∷ is) ++ ys ≡ (i.tick - elapsed) ∷ (to_come elapsed is ++ ys) = rw t refl in
     subst (λ (ds : List ℕ). IsLeastPast elapsed ds (i ∷ is)) (sym more) (
-      (λ l a. least_to (min a (i.tick - elapsed)) (i.tick - elapsed) (to_come elapsed is) (below a (i.tick - elapsed))),
-      past_more elapsed (i.tick - elapsed) (to_come elapsed is) is (least_past elapsed is),
+      (λ l a. least_to (min a (i.tick - elapsed)) (i.tick - elapsed) (to_come elapsed is ++ ys) (below a (i.tick - elapsed))),
+      past_more elapsed (i.tick - elapsed) (to_come elapsed is ++ ys) is (least_past elapsed is ys),
     ))
     (λ t.
-    let same : to_come elapsed (i ∷ is) ≡ to_come elapsed is = rw t refl in
+    let same : to_come elapsed (i ∷ is) ++ ys ≡ to_come elapsed is ++ ys = rw t refl in
     subst (λ (ds : List ℕ). IsLeastPast elapsed ds (i ∷ is)) (sym same) (
       (λ l a. absurd (let u = lt-ltb elapsed i.tick l in cc)),
-      least_past elapsed is,
+      least_past elapsed is ys,
     )) where
       below : (a d : ℕ) → min a d ≤ d
       below a d = omega arith
@@ -118,6 +127,54 @@ none_past : (a elapsed : ℕ) (xs ys : List ℕ) (is : List Interrupt)
 none_past a elapsed xs ys [] h = tt
 none_past a elapsed xs ys (i ∷ is) h =
     ((λ l. least_appended a xs ys (i.tick - elapsed) (λ b. h.0 l b)), none_past a elapsed xs ys is h.1)
+
+-- ---- raised handlers
+
+-- how many ticks it is to each tick for which a source is raised
+abbrev to_raised : ℕ → List Source → List ℕ
+to_raised elapsed xs = filter_map (λ (x : Source). option_map (λ tick. tick - elapsed) x.raised) xs
+
+raised_first : (elapsed a : ℕ) (o : Option ℕ) (ds : List ℕ)
+    → IsLeast elapsed a o (cons_option (option_map (λ tick. tick - elapsed) o) ds)
+raised_first elapsed a None ds = tt
+raised_first elapsed a (Some r) ds = let l = least (min a (r - elapsed)) ds in omega arith
+
+raised_rest : (elapsed a : ℕ) (o raised : Option ℕ) (ds : List ℕ) → ((b : ℕ) → IsLeast elapsed b raised ds)
+    → IsLeast elapsed a raised (cons_option (option_map (λ tick. tick - elapsed) o) ds)
+raised_rest elapsed a None raised ds h = h a
+raised_rest elapsed a (Some r) raised ds h = h (min a (r - elapsed))
+
+least_raised : (elapsed : ℕ) (xs : List Source) (i a : ℕ) → IsLeast elapsed a (get_or xs i no_source).raised (to_raised elapsed xs)
+least_raised elapsed [] i a = tt
+least_raised elapsed (x ∷ xs) zero a = raised_first elapsed a x.raised (to_raised elapsed xs)
+least_raised elapsed (x ∷ xs) (suc i) a =
+    raised_rest elapsed a x.raised (get_or xs i no_source).raised (to_raised elapsed xs) (λ b. least_raised elapsed xs i b)
+
+-- also after others
+least_behind : (elapsed a : ℕ) (raised : Option ℕ) (xs ys : List ℕ) → ((b : ℕ) → IsLeast elapsed b raised ys)
+    → IsLeast elapsed a raised (xs ++ ys)
+least_behind elapsed a raised [] ys h = h a
+least_behind elapsed a raised (x ∷ xs) ys h = least_behind elapsed (min a x) raised xs ys h
+
+-- A tick for which a handler is raised, and which is still to come, does so no sooner than this many ticks from now.
+abbrev pub NoneRaisedBetween : ℕ → State → Type 0
+NoneRaisedBetween n s = (handler : ℕ) → IfSome (source_at s handler).raised (λ r. s.elapsed < r → s.elapsed + n ≤ r)
+
+least_ahead : (app : Application) (limits : Limits) (s : State) (handler : ℕ)
+    → IfSome (source_at s handler).raised (λ r. first_ahead app limits s ≤ r - s.elapsed)
+least_ahead app limits s handler =
+    least_behind s.elapsed (limits.ticks - s.elapsed) (source_at s handler).raised (ticks_to_wake s)
+    (ticks_to_interrupt app s ++ ticks_to_raised s)
+    (λ b. least_behind s.elapsed b (source_at s handler).raised (ticks_to_interrupt app s) (ticks_to_raised s)
+    (λ c. least_raised s.elapsed s.sources handler c))
+
+-- Idle jumps over none.
+pub none_raised_ahead : (app : Application) (limits : Limits) (s : State) → NoneRaisedBetween (ticks_ahead app limits s) s
+none_raised_ahead app limits s handler = by_tick (source_at s handler).raised (least_ahead app limits s handler) where
+  by_tick : (o : Option ℕ) → IfSome o (λ r. first_ahead app limits s ≤ r - s.elapsed)
+      → IfSome o (λ r. s.elapsed < r → s.elapsed + ticks_ahead app limits s ≤ r)
+  by_tick None h = tt
+  by_tick (Some r) h = λ l. let e = ahead app limits s in omega arith
 
 -- ---- idle
 
@@ -170,13 +227,22 @@ module _ (app : Application) (limits : Limits) (s : State) where
   before_each : (is : List Interrupt) → NonePast (first_ahead app limits s) s.elapsed is
       → AllByRecursion (λ (i : Interrupt). s.elapsed < i.tick → (idle app limits s).elapsed ≤ i.tick) is
   before_each [] h = tt
-  before_each (i ∷ is) h = ((λ l. let m = h.0 l in elapsed_within i.tick (omega arith) (omega arith)), before_each is h.1)
+  before_each (i ∷ is) h =
+      ((λ l. let m = h.0 l in let e = ahead app limits s in elapsed_within i.tick (omega arith) (omega arith)), before_each is h.1)
 
   pub idle_before_interrupts : AllByRecursion
       (λ (i : Interrupt). s.elapsed < i.tick → (idle app limits s).elapsed ≤ i.tick) app.interrupts
   idle_before_interrupts =
       before_each app.interrupts (none_past (limits.ticks - s.elapsed) s.elapsed (ticks_to_wake s)
-      (ticks_to_interrupt app s) app.interrupts (least_past s.elapsed app.interrupts))
+      (ticks_to_interrupt app s ++ ticks_to_raised s) app.interrupts (least_past s.elapsed app.interrupts (ticks_to_raised s)))
+
+  pub idle_before_raised : (handler : ℕ) → IfSome (source_at s handler).raised
+      (λ tick. s.elapsed < tick → (idle app limits s).elapsed ≤ tick)
+  idle_before_raised handler = by_tick (source_at s handler).raised (none_raised_ahead app limits s handler) where
+    by_tick : (o : Option ℕ) → IfSome o (λ r. s.elapsed < r → s.elapsed + ticks_ahead app limits s ≤ r)
+        → IfSome o (λ r. s.elapsed < r → (idle app limits s).elapsed ≤ r)
+    by_tick None h = tt
+    by_tick (Some r) h = λ l. elapsed_within r (omega arith) (h l)
 
 -- ---- what it sleeps up to
 
@@ -266,8 +332,26 @@ far_interrupt elapsed d (i ∷ is) c = by_test (ltb elapsed i.tick)
     let same : to_come elapsed (i ∷ is) ≡ to_come elapsed is = rw t refl in
     far_interrupt elapsed d is (subst (λ (ds : List ℕ). Contains ds d) same c))
 
+-- the ticks for which sources are raised
+abbrev pub raised_ticks : List Source → List ℕ
+raised_ticks xs = filter_map (λ (x : Source). x.raised) xs
+
+hits_raised : (elapsed d : ℕ) (xs : List Source) → ((i : ℕ) → IfSome (get_or xs i no_source).raised (λ r. elapsed < r))
+    → Contains (to_raised elapsed xs) d → Contains (raised_ticks xs) (elapsed + d)
+hits_raised elapsed d [] later c = absurd (nowhere d c)
+hits_raised elapsed d (x ∷ xs) later c =
+    one_wake elapsed d x.raised (to_raised elapsed xs) (raised_ticks xs)
+    (later 0) (λ more. hits_raised elapsed d xs (λ i. later (suc i)) more) c
+
+far_raised : (elapsed d : ℕ) (xs : List Source) → ((i : ℕ) → IfSome (get_or xs i no_source).raised (λ r. elapsed < r))
+    → Contains (to_raised elapsed xs) d → 1 ≤ d
+far_raised elapsed d [] later c = absurd (nowhere d c)
+far_raised elapsed d (x ∷ xs) later c =
+    one_far elapsed d x.raised (to_raised elapsed xs) (later 0) (λ more. far_raised elapsed d xs (λ i. later (suc i)) more) c
+
 module _ (app : Application) (limits : Limits) (s : State) (on : app.tickless ≡ true)
-    (later : (i : ℕ) → IfSome (wake_time_of (status_at s i)) (λ w. s.time < w)) where
+    (later : (i : ℕ) → IfSome (wake_time_of (status_at s i)) (λ w. s.time < w))
+    (raised_later : (i : ℕ) → IfSome (source_at s i).raised (λ r. s.elapsed < r)) where
   abbrev slept : ℕ
   slept = ticks_ahead app limits s
 
@@ -282,22 +366,29 @@ module _ (app : Application) (limits : Limits) (s : State) (on : app.tickless �
 
   -- It is no further than to what happens first.
   slept_first : 1 ≤ first → slept ≡ first
-  slept_first some = omega arith
+  slept_first some = let e = ahead app limits s in omega arith
 
   pub sleeps_until : Contains (wake_times s.tasks) (idle app limits s).time
       ⊎ (Contains (map (λ (i : Interrupt). i.tick) app.interrupts) (idle app limits s).elapsed
-      ⊎ ((idle app limits s).elapsed ≡ max limits.ticks (s.elapsed + 1)))
-  sleeps_until = elim (reached (limits.ticks - s.elapsed) (ticks_to_wake s ++ ticks_to_interrupt app s)) [
-    | inl e ↦ inr (inr (let t = slept_elapsed in omega arith))
-    | inr c ↦ elim (Contains-append_cases (ticks_to_wake s) (ticks_to_interrupt app s) first c) [
+      ⊎ (Contains (raised_ticks s.sources) (idle app limits s).elapsed
+      ⊎ ((idle app limits s).elapsed ≡ max limits.ticks (s.elapsed + 1))))
+  sleeps_until = elim (reached (limits.ticks - s.elapsed) (ticks_to_wake s ++ (ticks_to_interrupt app s ++ ticks_to_raised s))) [
+    | inl e ↦ inr (inr (inr (let t = slept_elapsed in let a = ahead app limits s in omega arith)))
+    | inr c ↦ elim (Contains-append_cases (ticks_to_wake s) (ticks_to_interrupt app s ++ ticks_to_raised s) first c) [
       | inl w ↦
           let at : s.time + first ≡ (idle app limits s).time =
           (let t = slept_time in let n = slept_first (far_wake s.time first s.tasks later w) in omega arith) in
           inl (subst (Contains (wake_times s.tasks)) at (hits_wake s.time first s.tasks later w))
-      | inr i ↦
-          let at : s.elapsed + first ≡ (idle app limits s).elapsed =
-          (let t = slept_elapsed in let n = slept_first (far_interrupt s.elapsed first app.interrupts i) in omega arith) in
-          inr (inl (subst (Contains (map (λ (i : Interrupt). i.tick) app.interrupts)) at
-          (hits_interrupt s.elapsed first app.interrupts i)))
+      | inr more ↦ elim (Contains-append_cases (ticks_to_interrupt app s) (ticks_to_raised s) first more) [
+        | inl i ↦
+            let at : s.elapsed + first ≡ (idle app limits s).elapsed =
+            (let t = slept_elapsed in let n = slept_first (far_interrupt s.elapsed first app.interrupts i) in omega arith) in
+            inr (inl (subst (Contains (map (λ (i : Interrupt). i.tick) app.interrupts)) at
+            (hits_interrupt s.elapsed first app.interrupts i)))
+        | inr r ↦
+            let at : s.elapsed + first ≡ (idle app limits s).elapsed =
+            (let t = slept_elapsed in let n = slept_first (far_raised s.elapsed first s.sources raised_later r) in omega arith) in
+            inr (inr (inl (subst (Contains (raised_ticks s.sources)) at (hits_raised s.elapsed first s.sources raised_later r))))
+      ]
     ]
   ]

@@ -144,11 +144,16 @@ Remains stamps answers old new =
 abbrev pub StaysPending : (task : ℕ) → State → State → Type 0
 StaysPending task old new = (notification_at old task).pending ≡ true → (notification_at new task).pending ≡ true
 
+-- What is kept of the interrupt sources stays, and no tick elapses.
+abbrev pub IsUntouched : State → State → Type 0
+IsUntouched old new = (new.sources ≡ old.sources) × (new.elapsed ≡ old.elapsed)
+
 -- The variable is as it was, unless it may be stored. A notification of the task that is pending is so still, unless it may be
--- taken.
-abbrev pub AreLeft : (x : ℕ) (stores : Bool) (task : ℕ) (takes : Bool) → State → State → Type 0
-AreLeft x stores task takes old new =
+-- taken. The sources are as they were, unless they may be touched.
+abbrev pub AreLeft : (x : ℕ) (stores : Bool) (task : ℕ) (takes touches : Bool) → State → State → Type 0
+AreLeft x stores task takes touches old new =
     (stores ≡ false → variable_in new.variables x ≡ variable_in old.variables x) × (takes ≡ false → StaysPending task old new)
+    × (touches ≡ false → IsUntouched old new)
 
 -- An op that doesn't store to it leaves it.
 pub left_by_op : (x : ℕ) (op : ValueOp) (a : Option ℕ) (variables : List ℕ) → is_store_to x op ≡ false

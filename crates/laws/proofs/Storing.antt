@@ -25,7 +25,7 @@ module _ (x value : ℕ) where
   Is s = variable_in s.variables x ≡ value
 
   is-framed : (s t : State) → t.tasks ≡ s.tasks → t.next_ticket ≡ s.next_ticket
-      → t.time ≡ s.time → Stops s.stopped t.stopped → AreLeft x false 0 true s t → Is s → Is t
+      → t.time ≡ s.time → Stops s.stopped t.stopped → AreLeft x false 0 true true s t → Is s → Is t
   is-framed s t e n m stops left h = left.0 refl ∙ h
 
   is-passed : (n : ℕ) (s : State) → NoneBetween n s → Is s → Is (wake_due (record s { time = s.time + n }))
@@ -34,7 +34,7 @@ module _ (x value : ℕ) where
       let t : State = record s { time = s.time + n } in
       ap (λ variables. variable_in variables x) (variables-all_ready (tasks_of (due t)) t) ∙ h
 
-  is-kept : Keeping Is anyone anyone x false 0 true
+  is-kept : Keeping Is anyone anyone x false 0 true true
   is-kept = record {
     framed = is-framed;
     moved = λ s i t u remains k. k;

@@ -12,7 +12,7 @@ use Rattle.model.specs.Run.{state_after}
 use Rattle.model.specs.declared.end_state.Situation.TheVariants.{Runs, Ready, Awake, Waits, Sleeps, Suspended, Ended}
 use Rattle.model.specs.EndStates.{EndState, end_state_of, held_by}
 use Rattle.laws.specs.Examples.{a_task, a_task_of, on_queue, a, b, c, with_objects}
-use Rattle.laws.specs.HandlerExamples.{point_at, sends, with_handler}
+use Rattle.laws.specs.HandlerExamples.{a_handler, point_at, sends, with_handler}
 use Rattle.laws.specs.ValueExamples.{compute, isr_store, load, store, task_alone, with_variables, x, y}
 use Rattle.laws.specs.MutexExamples.{lock, lock_forever, m, n}
 use Rattle.laws.specs.DaemonExamples.{deferred}
@@ -102,7 +102,7 @@ five_tasks =
     ∷ a_task_of 1 (codes "b") (lock m 0 ∷ Work 2 ∷ lock n 5 ∷ [])
     ∷ a_task_of 3 (codes "c") (Suspend c ∷ Delay 7 ∷ []) ∷ a_task_of 1 (codes "e") (Time ∷ [])
     ∷ a_task_of 0 (codes "f") (Work 50 ∷ []) ∷ []) in
-    record app { handlers = record { name = codes "h"; ops = isr_op.Resume c ∷ [] } ∷ [] }
+    record app { handlers = a_handler (codes "h") (isr_op.Resume c ∷ []) ∷ [] }
 
 -- A task is suspended, and another sleeps, while two are Ready.
 abbrev pub begun : Stopped

@@ -12,7 +12,7 @@ use Rattle.model.specs.declared.event.Event.{Event}
 use Rattle.model.specs.declared.event.What.{What}
 use Rattle.model.specs.declared.event.What.TheVariants as what
 use Rattle.model.specs.declared.event.End.TheVariants.{Pass, Stuck}
-use Rattle.model.specs.Application.{Application, Definition}
+use Rattle.model.specs.Application.{Application, Definition, Handler}
 use Rattle.model.specs.Run.{Run, IsRun, IsRow}
 use Rattle.laws.specs.Examples.{wide, a_task, a_task_of, on_queue, on_queue_forever, a, b, c, event_at, call, runs, idles}
 
@@ -21,6 +21,10 @@ use Rattle.laws.specs.Examples.{wide, a_task, a_task_of, on_queue, on_queue_fore
 -- the one handler of an example
 abbrev pub h : ℕ
 h = 0
+
+-- a handler that can come at any time
+abbrev pub a_handler : List ℕ → List IsrOp → Handler
+a_handler name ops = record { name = name; ops = ops; armed = true; apart = 0 }
 
 -- an application of these queues, this handler and these tasks, from time 0 on
 abbrev pub with_handler : List ObjectKind → List IsrOp → List Definition → Application
@@ -31,7 +35,7 @@ with_handler objects ops tasks = record {
   objects = objects;
   group_count = 0;
   variables = [];
-  handlers = record { name = codes "h"; ops = ops } ∷ [];
+  handlers = a_handler (codes "h") ops ∷ [];
   interrupts = [];
   tasks = tasks;
   daemon = None;

@@ -1,6 +1,9 @@
+pub mod Arming
 pub mod BranchExamples
 pub mod Branches
 pub mod Choice
+pub mod Comings
+pub mod Raising
 pub mod DaemonExamples
 pub mod EndStateExamples
 pub mod EndlessExamples
@@ -15,6 +18,7 @@ pub mod Notifications
 pub mod PlacementExamples
 pub mod SectionExamples
 pub mod Sections
+pub mod SourceExamples
 pub mod StampExamples
 pub mod TicklessExamples
 pub mod Ticks

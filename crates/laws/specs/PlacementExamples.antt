@@ -7,15 +7,16 @@ use Rattle.model.specs.declared.op.Op.TheVariants.{Mark}
 use Rattle.model.specs.declared.plan.Injection.{Injection}
 use Rattle.model.specs.Application.{Application, Handler}
 use Rattle.model.specs.Placements.{AreAll, Placed, is_less}
+use Rattle.laws.specs.HandlerExamples.{a_handler}
 use Rattle.laws.specs.Examples.{a_task, the_application, wide}
 
 -- a handler that does nothing
-abbrev a_handler : Handler
-a_handler = record { name = codes "h"; ops = [] }
+abbrev does_nothing : Handler
+does_nothing = a_handler (codes "h") []
 
 -- an application of one task with this script, and two handlers
 abbrev pub with_script : List Op → Application
-with_script script = record (the_application 0 (a_task (codes "a") script ∷ [])) { handlers = a_handler ∷ a_handler ∷ [] }
+with_script script = record (the_application 0 (a_task (codes "a") script ∷ [])) { handlers = does_nothing ∷ does_nothing ∷ [] }
 
 -- its run has two steps
 abbrev pub two_steps : Application

@@ -15,7 +15,7 @@ use Rattle.model.specs.declared.event.What.TheVariants as what
 use Rattle.model.specs.Application.{Application}
 use Rattle.laws.specs.Examples.{a_task, a_task_of, the_application, with_objects, on_queue_forever, a, b, event_at, call, runs}
 use Rattle.laws.specs.Examples.{idles}
-use Rattle.laws.specs.HandlerExamples.{Injected, with_handler, sends, h, at, point_at, isr}
+use Rattle.laws.specs.HandlerExamples.{Injected, a_handler, with_handler, sends, h, at, point_at, isr}
 
 -- ---- words
 
@@ -24,8 +24,8 @@ abbrev pub with_two_handlers : List Op → Application
 with_two_handlers script =
     record (the_application 0 (a_task (codes "a") script ∷ [])) {
       handlers =
-          record { name = codes "h"; ops = isr_op.Mark (Number 1) ∷ [] }
-          ∷ record { name = codes "second"; ops = isr_op.Mark (Number 2) ∷ [] } ∷ [];
+          a_handler (codes "h") (isr_op.Mark (Number 1) ∷ [])
+          ∷ a_handler (codes "second") (isr_op.Mark (Number 2) ∷ []) ∷ [];
     }
 
 -- the second of these handlers

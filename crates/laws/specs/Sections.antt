@@ -3,7 +3,8 @@ use Rattle.std.specs.Prelude.{ℕ, zero, suc, ◌&&◌, Bool, true, false, []}
 use Rattle.model.specs.declared.event.What.{What}
 use Rattle.model.specs.declared.event.What.TheVariants.{Isr, IsrNone, IsrMark}
 use Rattle.model.specs.Application.{Application, Limits}
-use Rattle.model.specs.State.{State}
+use Rattle.model.specs.State.{State, source_at, with_source}
+use Rattle.model.specs.Handlers.{note_coming}
 use Rattle.model.specs.Switching.{is_critical}
 use Rattle.model.specs.Step.{step}
 
@@ -16,6 +17,10 @@ alone app limits (suc n) s = alone app limits n (step app limits [] s)
 abbrev pub are_critical : Application → Limits → ℕ → State → Bool
 are_critical app limits zero s = true
 are_critical app limits (suc n) s = is_critical s && are_critical app limits n (step app limits [] s)
+
+-- The handler is pending, and has come.
+abbrev pub made_pending : Application → ℕ → State → State
+made_pending app handler s = note_coming app handler (with_source handler (record (source_at s handler) { pending = true }) s)
 
 -- The event is a handler's.
 abbrev pub is_of_handler : What → Bool

@@ -19,7 +19,7 @@ use Rattle.model.specs.declared.event.End.TheVariants.{Pass, Check, HandlerCheck
 use Rattle.model.specs.declared.event.What.TheVariants as what
 use Rattle.model.specs.Application.{Application}
 use Rattle.laws.specs.Examples.{a_task, a_task_of, with_objects, a, event_at, call, idles}
-use Rattle.laws.specs.HandlerExamples.{Injected, with_handler, h, at, point_at, isr}
+use Rattle.laws.specs.HandlerExamples.{Injected, a_handler, with_handler, h, at, point_at, isr}
 use Rattle.laws.specs.SectionExamples.{mark, isr_mark, second}
 
 -- ---- words
@@ -312,8 +312,8 @@ ends_one_handler = record {
   app =
       record (with_variables (6 ∷ []) (with_objects [] (a_task (codes "a") (Time ∷ Mark (Number 7) ∷ [])
       ∷ []))) {
-        handlers = record { name = codes "h"; ops = isr_compute Add (Number 1) ∷ isr_op.Mark (Number 1) ∷ [] }
-            ∷ record { name = codes "second"; ops = isr_load x ∷ isr_op.Mark Answer ∷ [] } ∷ [];
+        handlers = a_handler (codes "h") (isr_compute Add (Number 1) ∷ isr_op.Mark (Number 1) ∷ [])
+            ∷ a_handler (codes "second") (isr_load x ∷ isr_op.Mark Answer ∷ []) ∷ [];
       };
   plan = at 0 ∷ record { step = 0; handler = second } ∷ [];
   run = record {

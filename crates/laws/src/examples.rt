@@ -10,6 +10,7 @@ ghost use Rattle.laws.specs.BranchExamples.{branch_examples};
 ghost use Rattle.laws.specs.EndlessExamples.{endless_examples};
 ghost use Rattle.laws.specs.LookingExamples.{looking_examples};
 ghost use Rattle.laws.specs.SectionExamples.{section_examples};
+ghost use Rattle.laws.specs.SourceExamples.{armed_rows, source_examples};
 ghost use Rattle.laws.specs.ValueExamples.{value_examples};
 ghost use Rattle.laws.specs.StampExamples.{stamp_examples};
 ghost use Rattle.laws.specs.NotificationExamples.{notification_examples};
@@ -126,4 +127,13 @@ pub fn examples_with_notifications_run()
 /// a daemon without a command; a task that begins to wait for a notification; variables that a task and a handler have stored, and one that an op without a value hasn't.
 pub fn end_states_of_examples()
     ensures { AllByRecursion StandsSo end_states }
+{}
+
+/// Each application of the table of examples with handlers that are armed, disarmed, raised or cancelled runs as the table says. A handler
+/// that is disarmed can't come, unless it is pending already or a base interrupt; nor can one that has come too recently, as a base
+/// interrupt too. A handler that raises itself comes again and again. One that is cancelled doesn't come, unless it is due already, and
+/// one that is raised anew comes at the later tick alone. An injection leaves it raised. Idle sleeps up to the tick at which one comes.
+pub fn examples_with_armed_and_raised_handlers_run()
+    ensures rows { AllByRecursion RowIs armed_rows }
+    ensures runs { AllByRecursion RunsWith source_examples }
 {}

@@ -2,28 +2,37 @@
 //! that does nothing, so that it is proved.
 #![tactic(auto)]
 
+mod arming;
 mod branches;
 mod campaigns;
+mod comings;
 mod endless;
 mod examples;
 mod looking;
 mod notifications;
 mod placements;
+mod raising;
 mod runs;
 mod sections;
 mod stamps;
 mod states;
 mod values;
 
+pub use arming::{
+    disarmed_handlers_change_no_run, disarmed_handlers_reach_nothing,
+    what_is_never_disarmed_can_come,
+};
 pub use branches::{
     branches_are_quiet, breaks_end_the_innermost_loop, loops_for_ever_go_on, one_branch_is_done,
 };
 pub use campaigns::{ends_add_up, unreached_row_is_the_base_run};
+pub use comings::comings_are_apart;
 pub use endless::{
     endless_tasks_alone_never_pass, endless_tasks_are_not_awaited, passing_runs_end_what_is_awaited,
 };
 pub use examples::{
-    end_states_of_examples, examples_run, examples_with_a_daemon_run, examples_with_branches_run,
+    end_states_of_examples, examples_run, examples_with_a_daemon_run,
+    examples_with_armed_and_raised_handlers_run, examples_with_branches_run,
     examples_with_endless_tasks_run, examples_with_handlers_run,
     examples_with_handlers_that_look_run, examples_with_holds_run, examples_with_mutexes_run,
     examples_with_notifications_run, examples_with_sections_run, examples_with_stamps_run,
@@ -40,6 +49,10 @@ pub use notifications::{
 pub use placements::{
     order_counts_within_a_step, placements_are_ordered, placements_of_two_steps,
     steps_have_all_placements,
+};
+pub use raising::{
+    injections_leave_handlers_raised, last_raise_counts, periodic_handlers_come_again,
+    periodic_handlers_keep_time, raised_handlers_come_later,
 };
 pub use runs::{late_points_do_nothing, row_is_one, run_is_one};
 pub use sections::{

@@ -6,39 +6,43 @@ ghost use Rattle.model.specs.Application.{Application, Limits};
 ghost use Rattle.model.specs.Scripts.{IsWellFormed};
 ghost use Rattle.model.specs.State.{State};
 ghost use Rattle.model.specs.Switching.{is_critical};
-ghost use Rattle.model.specs.Handlers.{pend};
+ghost use Rattle.model.specs.Handlers.{can_come, pend};
 ghost use Rattle.model.specs.Step.{step};
 ghost use Rattle.model.specs.Invariant.{IsNonePending, IsState};
-ghost use Rattle.laws.specs.Sections.{alone, are_critical, is_of_handler};
+ghost use Rattle.laws.specs.Sections.{alone, are_critical, is_of_handler, made_pending};
 
 /// A handler that is injected while a critical section is open changes nothing of the run as long as one is open, but that it is
-/// pending: the same steps are done, and the same events are reported.
+/// pending, and has come: the same steps are done, and the same events are reported. If it can't come, it isn't even pending.
 pub fn pending_handlers_change_nothing()
-    ensures { (app : Application) → IsWellFormed app → (limits : Limits) (handler steps : ℕ) (s : State) → IsState app s
-        → are_critical app limits (suc steps) s ≡ true
-        → alone app limits steps (step app limits (handler ∷ []) s) ≡ pend handler (alone app limits (suc steps) s) }
+    ensures can { (app : Application) → IsWellFormed app → (limits : Limits) (handler steps : ℕ) (s : State) → IsState app s
+        → are_critical app limits (suc steps) s ≡ true → can_come s handler ≡ true
+        → alone app limits steps (step app limits (handler ∷ []) s) ≡ made_pending app handler (alone app limits (suc steps) s) }
+    ensures cannot { (app : Application) → IsWellFormed app → (limits : Limits) (handler steps : ℕ) (s : State) → IsState app s
+        → are_critical app limits (suc steps) s ≡ true → can_come s handler ≡ false
+        → alone app limits steps (step app limits (handler ∷ []) s) ≡ alone app limits (suc steps) s }
 {}
 
 /// It comes before the first step before which none is open, and the run goes on from there as if it had been injected at that step.
 pub fn pending_handlers_come_at_the_exit()
     ensures { (app : Application) (limits : Limits) (handler : ℕ) (s : State) → handler < length s.sources
         → IsNonePending s → is_critical s ≡ false
-        → step app limits [] (pend handler s) ≡ step app limits (handler ∷ []) s }
+        → step app limits [] (pend app handler s) ≡ step app limits (handler ∷ []) s }
 {}
 
 /// So a handler that is injected inside a section, before which nothing is pending, comes before the first step after it, and nothing
-/// else of the run differs from the one in which it is injected there.
+/// else of the run differs from the one in which it is injected there, if it can come there as it can here.
 pub fn injections_in_a_section_wait()
     ensures { (app : Application) → IsWellFormed app → (limits : Limits) (handler steps : ℕ) (s : State) → IsState app s
         → IsNonePending s → handler < length s.sources → are_critical app limits (suc steps) s ≡ true
         → is_critical (alone app limits (suc steps) s) ≡ false
+        → can_come (alone app limits (suc steps) s) handler ≡ can_come s handler
         → step app limits [] (alone app limits steps (step app limits (handler ∷ []) s))
         ≡ step app limits (handler ∷ []) (alone app limits (suc steps) s) }
 {}
 
 /// A handler that is pending already stays so, once.
 pub fn pending_handlers_come_once()
-    ensures { (handler : ℕ) (s : State) → pend handler (pend handler s) ≡ pend handler s }
+    ensures { (app : Application) (handler : ℕ) (s : State) → pend app handler (pend app handler s) ≡ pend app handler s }
 {}
 
 /// Before that no handler comes: none of the events of a step before which a critical section is open is a handler's.

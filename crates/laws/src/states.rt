@@ -6,12 +6,12 @@ ghost use Rattle.model.specs.declared.call.Phase.{Phase};
 ghost use Rattle.model.specs.declared.plan.Injection.{Injection};
 ghost use Rattle.model.specs.Application.{Application, Interrupt, Limits, definition_of, interrupts_at};
 ghost use Rattle.model.specs.Scripts.{IsWellFormed};
-ghost use Rattle.model.specs.State.{State, Task, status_at, task_at, ticket_of, wake_time_of};
+ghost use Rattle.model.specs.State.{State, Source, Task, source_at, status_at, task_at, ticket_of, wake_time_of};
 ghost use Rattle.model.specs.Switching.{choice, holds_ticks, is_critical, is_held, is_ready, is_outranked};
 ghost use Rattle.model.specs.Time.{increment_tick};
 ghost use Rattle.model.specs.Ops.{use_up};
 ghost use Rattle.model.specs.Waiting.{end_hold};
-ghost use Rattle.model.specs.Handlers.{idle, inject, pending_of, tick_interrupt};
+ghost use Rattle.model.specs.Handlers.{can_come, idle, inject, is_raised_for, pending_of, tick_interrupt};
 ghost use Rattle.model.specs.Step.{before_step, step};
 ghost use Rattle.model.specs.Run.{state_after};
 ghost use Rattle.model.specs.Invariant.{IsNonePending, IsState};
@@ -91,27 +91,31 @@ pub fn ticks_pass_up_to_the_limit()
 pub fn injected_ticks_are_ticks_of_work()
     // A tick of the work is used up in the state into which the tick is injected, and not in the other one.
     ensures { (app : Application) (limits : Limits) (s : State) (task ticks : ℕ) → WorksOn app s task ticks
-        → is_critical s ≡ false → IsNonePending s
+        → can_come s (length app.handlers) ≡ true → is_critical s ≡ false → IsNonePending s
         → with_steps (s.steps + 1) (before_step app (length app.handlers ∷ []) (use_up app task ticks s)) ≡ step app limits [] s }
 {}
 
 /// Idle sleeps past nothing. However many ticks pass in its step, they don't go past the time at which a task is to wake by
-/// itself, nor past the tick of a base interrupt that is still to come.
+/// itself, nor past the tick of a base interrupt that is still to come, nor past that for which a handler is raised.
 pub fn idle_sleeps_past_nothing()
     ensures wakes { (app : Application) (limits : Limits) (s : State) (task : ℕ) → IfSome (wake_time_of (status_at s task))
         (λ wake_time. s.time < wake_time → (idle app limits s).time ≤ wake_time) }
     ensures interrupts { (app : Application) (limits : Limits) (s : State)
         → AllByRecursion (λ (i : Interrupt). s.elapsed < i.tick → (idle app limits s).elapsed ≤ i.tick) app.interrupts }
+    ensures raised { (app : Application) (limits : Limits) (s : State) (handler : ℕ) → IfSome (source_at s handler).raised
+        (λ tick. s.elapsed < tick → (idle app limits s).elapsed ≤ tick) }
 {}
 
 /// If the application is tickless, idle sleeps until something happens: its step ends at a time at which a task was to wake, at the
-/// tick of a base interrupt, or at the limit. If a tick that was injected into the step has reached the limit, it ends a tick later.
+/// tick of a base interrupt or one for which a handler was raised, or at the limit. If a tick that was injected into the step has reached the limit, it ends a tick later.
 pub fn idle_sleeps_until_something_happens()
     ensures { (app : Application) (limits : Limits) (s : State) → app.tickless ≡ true
         → ((task : ℕ) → IfSome (wake_time_of (status_at s task)) (λ wake_time. s.time < wake_time))
+        → ((handler : ℕ) → IfSome (source_at s handler).raised (λ tick. s.elapsed < tick))
         → Contains (filter_map (λ (t : Task). wake_time_of t.status) s.tasks) (idle app limits s).time
         ⊎ (Contains (map (λ (i : Interrupt). i.tick) app.interrupts) (idle app limits s).elapsed
-        ⊎ ((idle app limits s).elapsed ≡ max limits.ticks (s.elapsed + 1))) }
+        ⊎ (Contains (filter_map (λ (x : Source). x.raised) s.sources) (idle app limits s).elapsed
+        ⊎ ((idle app limits s).elapsed ≡ max limits.ticks (s.elapsed + 1)))) }
 {}
 
 /// The time, and the ticks that are held, are the start and the elapsed ticks.
@@ -149,8 +153,9 @@ pub fn held_ticks_wait_for_the_release()
     ensures held { (s : State) → holds_ticks s ≡ true
         → ((increment_tick s).elapsed ≡ s.elapsed + 1) × ((increment_tick s).time ≡ s.time)
         × ((increment_tick s).tasks ≡ s.tasks) }
-    // So a tick that is injected then wakes nobody, if no base interrupt comes with it.
+    // So a tick that is injected then wakes nobody, if no base interrupt comes with it, and no handler is raised for it.
     ensures injected { (app : Application) (s : State) → holds_ticks s ≡ true → interrupts_at app (s.elapsed + 1) ≡ []
+        → ((handler : ℕ) → is_raised_for (s.elapsed + 1) (source_at s handler) ≡ false)
         → (inject app (length app.handlers) s).tasks ≡ s.tasks }
     ensures released { (task : ℕ) (phase : Phase) (s : State)
         → ((end_hold task phase s).elapsed ≡ s.elapsed) × ((end_hold task phase s).time ≡ s.time + s.held_ticks)

@@ -4,7 +4,7 @@ use Rattle.std.proofs.Math.ListN.{get_or-eq_default}
 use Rattle.model.specs.State.{State, Task, no_task}
 use Rattle.groups.specs.StandsFor as groups
 use Rattle.machine.specs.declared.machine.Machine.{Machine}
-use Rattle.machine.specs.StandsFor.{AreBlankFrom, Stands}
+use Rattle.machine.specs.StandsFor.{AreBlankFrom, AreSources, Stands, released_ticks}
 use Rattle.machine.specs.StandsFor.Stands.{Placed, Placing}
 use Rattle.machine.proofs.Either.{progress_is}
 
@@ -13,11 +13,13 @@ pub blank_behind : (k : Machine) (s : State) (tasks : ℕ) → Stands k s → le
 blank_behind k s tasks h few task behind =
     progress_is k s h task ∙ ap (λ (t : Task). t.progress) (get_or-eq_default s.tasks no_task (omega (arith, few, behind)))
 
--- It represents the state too with other groups that do so.
-pub with_other_groups : (k j : Machine) (s : State) → k ≡ record j { groups = k.groups }
-    → (groups.StandsFor k.groups s → groups.StandsFor j.groups s) → Stands k s → Stands j s
-with_other_groups k j s alike other h = regrouped (subst (λ (m : Machine). Stands m s) alike h) where
-  regrouped : Stands (record j { groups = k.groups }) s → Stands j s
+-- It represents the state too with other groups and other sources that do so.
+pub with_others : (k j : Machine) (s : State) → k ≡ record j { groups = k.groups; sources = k.sources }
+    → (groups.StandsFor k.groups s → groups.StandsFor j.groups s)
+    → (AreSources (released_ticks s) k.sources s.sources → AreSources (released_ticks s) j.sources s.sources)
+    → Stands k s → Stands j s
+with_others k j s alike other these h = regrouped (subst (λ (m : Machine). Stands m s) alike h) where
+  regrouped : Stands (record j { groups = k.groups; sources = k.sources }) s → Stands j s
   regrouped (Placed p) = Placed (record {
     sched = p.sched;
     rest = record {
@@ -29,7 +31,7 @@ with_other_groups k j s alike other h = regrouped (subst (λ (m : Machine). Stan
       awake = p.rest.awake;
       notifications = p.rest.notifications;
       variables = p.rest.variables;
-      sources = p.rest.sources;
+      sources = these p.rest.sources;
       sections = p.rest.sections;
       steps = p.rest.steps;
       stopped = p.rest.stopped;
@@ -46,7 +48,7 @@ with_other_groups k j s alike other h = regrouped (subst (λ (m : Machine). Stan
     full = b.full;
     notifications = b.notifications;
     variables = b.variables;
-    sources = b.sources;
+    sources = these b.sources;
     sections = b.sections;
     steps = b.steps;
     stopped = b.stopped;

@@ -22,15 +22,15 @@ use Rattle.groups.proofs.Kept as bits_kept
 use Rattle.machine.specs.declared.machine.Machine.{Machine}
 use Rattle.machine.specs.Sources.{Sources}
 use Rattle.machine.specs.StandsFor.{AreNotifications, AreSources, notification_in, StandsFor, StandsBefore, Stands, At, AtAny}
-use Rattle.machine.specs.StandsFor.{decider}
+use Rattle.machine.specs.StandsFor.{decider, released_ticks}
 use Rattle.machine.specs.StandsFor.Stands.{Placed, Placing}
 use Rattle.machine.proofs.Parts.{clock-same, same_parts, sched-same}
-use Rattle.machine.proofs.Either.{variables_are}
+use Rattle.machine.proofs.Either.{sources_are, variables_are}
 
 -- Nothing beside the parts is as it was, and a task is still to be placed.
 pub before_with : (k : Machine) (s : State) (task : ℕ) (list : WaitList) → StandsBefore task list k s
     → (log : List Event) (steps n : ℕ) (stopped end : Option End) → n ≡ steps → end ≡ stopped
-    → (v : Sources) (xs : List Source) → AreSources v xs → (values : List ℕ)
+    → (v : Sources) (xs : List Source) → AreSources (released_ticks s) v xs → (values : List ℕ)
     → (ns : List Notification) (ms : ℕ → Notification) → AreNotifications ns ms
     → StandsBefore task list (record k { notifications = ns; variables = values; sources = v; steps = n; stopped = end })
     (record s { notifications = ms; variables = values; sources = xs; log = log; steps = steps; stopped = stopped })
@@ -93,7 +93,8 @@ before_with k s task list b log steps n stopped end same_steps same_end v xs are
       placed = b.placed;
     }
 
-placed_with : (k : Machine) (s : State) → StandsFor k s → (v : Sources) (xs : List Source) → AreSources v xs → (values : List ℕ)
+placed_with : (k : Machine) (s : State) → StandsFor k s → (v : Sources) (xs : List Source)
+    → AreSources (released_ticks s) v xs → (values : List ℕ)
     → (ns : List Notification) (ms : ℕ → Notification) → AreNotifications ns ms
     → StandsFor (record k { notifications = ns; variables = values; sources = v })
     (record s { notifications = ms; variables = values; sources = xs })
@@ -123,17 +124,32 @@ placed_with k s h v xs are values ns ms noted =
 
 -- ---- the sources
 
-pub with_sources : (k : Machine) (s : State) → Stands k s → (v : Sources) (xs : List Source) → AreSources v xs
+pub placed_sources : (k : Machine) (s : State) → StandsFor k s → (v : Sources) (xs : List Source)
+    → AreSources (released_ticks s) v xs
+    → StandsFor (record k { sources = v }) (record s { sources = xs })
+placed_sources k s h v xs are =
+    subst (λ (ys : List ℕ). StandsFor (record k { sources = v }) (record s { variables = ys; sources = xs }))
+    h.rest.variables (placed_with k s h v xs are k.variables k.notifications s.notifications h.rest.notifications)
+
+pub with_sources : (k : Machine) (s : State) → Stands k s → (v : Sources) (xs : List Source) → AreSources (released_ticks s) v xs
     → Stands (record k { sources = v }) (record s { sources = xs })
-with_sources k s (Placed h) v xs are =
-    Placed (subst (λ (ys : List ℕ). StandsFor (record k { sources = v }) (record s { variables = ys; sources = xs }))
-    h.rest.variables (placed_with k s h v xs are k.variables k.notifications s.notifications h.rest.notifications))
+with_sources k s (Placed h) v xs are = Placed (placed_sources k s h v xs are)
 with_sources k s (Placing task list b) v xs are =
     Placing task list
     (subst (λ (ys : List ℕ). StandsBefore task list (record k { sources = v }) (record s { variables = ys; sources = xs }))
     b.variables
     (before_with k s task list b s.log s.steps k.steps s.stopped k.stopped b.steps b.stopped v xs are k.variables
     k.notifications s.notifications b.notifications))
+
+-- All that is kept of the sources is another.
+module _ (k : Machine) (log : List Event) (s : State) (v : Sources) (xs : List Source) where
+  pub sourced_at : (AreSources (released_ticks s) k.sources s.sources → AreSources (released_ticks s) v xs) → At k log s
+      → At (record k { sources = v }) log (record s { sources = xs })
+  sourced_at are h = record { stands = placed_sources k s h.stands v xs (are h.stands.rest.sources); log = h.log }
+
+  pub sourced_any : (AreSources (released_ticks s) k.sources s.sources → AreSources (released_ticks s) v xs) → AtAny k log s
+      → AtAny (record k { sources = v }) log (record s { sources = xs })
+  sourced_any are h = record { stands = with_sources k s h.stands v xs (are (sources_are k s h.stands)); log = h.log }
 
 -- ---- the variables
 

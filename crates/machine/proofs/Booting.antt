@@ -14,7 +14,7 @@ use Rattle.model.specs.State.{Source, no_source, for_each}
 use Rattle.model.specs.Order.{keyed, list_by, tasks_of}
 use Rattle.model.specs.Switching.{make_ready, ready_key, choice, choose, dispatch, is_held, is_same}
 use Rattle.model.specs.Time.{delayed_key, due}
-use Rattle.model.specs.Step.{task_at_reset, with_ops, reset, nobody_ready, ready_at_reset}
+use Rattle.model.specs.Step.{task_at_reset, with_ops, reset, nobody_ready, ready_at_reset, source_at_reset}
 use Rattle.model.proofs.Sorting.{by_test}
 use Rattle.model.proofs.Lists.{eqb-refl, eqb-same}
 use Rattle.model.proofs.Chosen.{choice_within, each-end, same_eq}
@@ -33,13 +33,13 @@ use Rattle.std.specs.Prelude.{None}
 use Rattle.model.proofs.Tables.{table-make_ready}
 use Rattle.soundness.proofs.Reached.{with_ops_within}
 use Rattle.machine.specs.declared.machine.Machine.{Machine}
-use Rattle.soundness.proofs.Pending.{none_listed, not_pending}
-use Rattle.machine.specs.Sources.{Sources, is_pending}
+use Rattle.machine.specs.Sources.{Sources, source_from, source_in}
 use Rattle.machine.specs.StandsFor.{progress_in, AreSources, StandsFor, Stands}
 use Rattle.machine.specs.Boot.{priorities_in, HasNoneFrom}
+use Rattle.machine.proofs.Arriving.{with_last}
 use Rattle.machine.proofs.Parts.{clock-same, ready_alike, rest_with_clock}
 use Rattle.sched.proofs.LinedUp.{ready_made}
-use Rattle.machine.proofs.Waking.{kept-all_ready, progress-all_ready, still_awake}
+use Rattle.machine.proofs.Waking.{released-all_ready, kept-all_ready, progress-all_ready, still_awake}
 use Rattle.model.specs.Suspension.{can_resume}
 use Rattle.groups.specs.StandsFor.{event_wait, SameEventWaits}
 use Rattle.groups.proofs.Kept as bits_kept
@@ -363,25 +363,28 @@ booted app formed k v w h ready chooses =
     (clock-all_ready k.clock is none h.rest.clock awake low) refl refl refl on.table in
     record {
       sched = on;
-      rest = rest_with_clock h.rest c (progress-all_ready is none) (kept-all_ready is none) (same_at_reset app) bits;
+      rest =
+          rest_with_clock h.rest c (let e = released-all_ready is none in omega (arith, e)) (progress-all_ready is none)
+          (kept-all_ready is none) (same_at_reset app) bits;
     } where
       nobody_waits : (js : List ℕ) → AllByRecursion (λ i. event_wait (status_at (nobody_ready app) i) ≡ None) js
       nobody_waits [] = tt
       nobody_waits (j ∷ js) = (ap event_wait (ended_reset app.start j app.tasks), nobody_waits js)
 
--- ---- no source is pending
+-- ---- the sources
 
 pub sources_at_reset : (app : Application) → length app.handlers ≤ 16 → (kept : Sources)
-    → kept.number ≡ length app.handlers + 1 → ((source : ℕ) → is_pending kept source ≡ false) → length kept.pending ≡ 17
-    → AreSources kept (map (λ (handler : Handler). no_source) app.handlers ++ no_source ∷ [])
-sources_at_reset app few kept number none full =
-    let sources : List Source = map (λ (handler : Handler). no_source) app.handlers ++ no_source ∷ [] in
-    let many : length sources ≡ length app.handlers + 1 =
-    length-append (map (λ (handler : Handler). no_source) app.handlers) (no_source ∷ [])
-    ∙ ap (λ (n : ℕ). n + 1) (length-map app.handlers (λ (handler : Handler). no_source)) in
+    → kept.number ≡ length app.handlers + 1
+    → ((source : ℕ) → source_in kept source ≡ get_or (map source_at_reset app.handlers) source no_source)
+    → (length kept.pending ≡ 17) × (length kept.arrivals ≡ 17)
+    → AreSources 0 kept (map source_at_reset app.handlers ++ no_source ∷ [])
+sources_at_reset app few kept number each full =
+    let of_handlers : List Source = map source_at_reset app.handlers in
+    let many : length (of_handlers ++ no_source ∷ []) ≡ length app.handlers + 1 =
+    length-append of_handlers (no_source ∷ []) ∙ ap (λ (n : ℕ). n + 1) (length-map app.handlers source_at_reset) in
     record {
       number = number ∙ sym many;
-      pending = λ source. none source ∙ sym (not_pending sources source (none_listed app.handlers));
+      same = λ source. ap (source_from 0) (each source ∙ with_last of_handlers no_source source);
       full = full;
       few = omega arith;
     }

@@ -9,7 +9,7 @@ use Rattle.sched.specs.StandsFor.{task_holds_of}
 use Rattle.sched.proofs.Standing as on_sched
 use Rattle.sched.proofs.Standing.{none_suspends}
 use Rattle.machine.specs.StandsFor.{AreNotifications, AreSources, StandsBefore, Stands, At, AtAny, Does, DoesAny, Moves}
-use Rattle.machine.specs.StandsFor.{progress_in}
+use Rattle.machine.specs.StandsFor.{progress_in, released_ticks}
 use Rattle.machine.specs.Logged.{Logged}
 use Rattle.machine.specs.Can.{Agrees}
 use Rattle.machine.specs.StandsFor.Stands.{Placed, Placing}
@@ -71,7 +71,11 @@ module _ (k : Machine) (s : State) where
   notifications_are (Placed h) = h.rest.notifications
   notifications_are (Placing task list b) = b.notifications
 
-  pub sources_are : Stands k s → AreSources k.sources s.sources
+  pub released_is : Stands k s → k.clock.age ≡ released_ticks s
+  released_is (Placed h) = let age = h.rest.clock.age in let held = h.rest.clock.held in omega (arith, age, held)
+  released_is (Placing task list b) = let age = b.clock.age in let held = b.clock.held in omega (arith, age, held)
+
+  pub sources_are : Stands k s → AreSources (released_ticks s) k.sources s.sources
   sources_are (Placed h) = h.rest.sources
   sources_are (Placing task list b) = b.sources
 

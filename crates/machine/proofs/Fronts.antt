@@ -57,8 +57,8 @@ front_is tasks ps front full few blank is =
           blank task behind ∙ sym (get_or-eq_default (take tasks ps) no_progress (omega (arith, long, behind)))
     ])))
 
--- A front that is put over what is blank.
-pub filled : (front before : List Progress) → length front ≤ 32 → length before ≡ 32 → AreBlankFrom 0 before
+-- A front that is put over what is blank after it.
+pub filled : (front before : List Progress) → length front ≤ 32 → length before ≡ 32 → AreBlankFrom (length front) before
     → front ++ drop (length front) before ≡ with_blanks front
 filled front before few full blank =
     let behind = length-drop (length front) before in

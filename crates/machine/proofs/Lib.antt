@@ -1,5 +1,6 @@
 pub mod Compared
 pub mod Looping
+pub mod AlikeSources
 pub mod Parts
 pub mod Either
 pub mod Alike
@@ -12,3 +13,4 @@ pub mod Booting
 mod Fronts
 pub mod Beside
 pub mod Pending
+pub mod Arriving

@@ -1,5 +1,6 @@
 -- What the parts of the kernel make of the states that it represents.
-use Rattle.std.proofs.Common.{◌≡◌, ◌≢◌, ◌<◌, ◌≤◌, ℕ, zero, suc, Bool, true, false, eqb, List, [], ◌∷◌, ◌++◌, length, get_or, set}
+use Rattle.std.proofs.Common.{◌≡◌, ◌≢◌, ◌<◌, ◌≤◌, ◌-◌, ℕ, zero, suc, Bool, true, false, eqb, List, [], ◌∷◌, ◌++◌, length, get_or}
+use Rattle.std.proofs.Common.{set}
 use Rattle.std.proofs.Common.{Option, Some, None, refl, ap, sym, subst, ◌∙◌, arith, get_or-set_same, get_or-set_other}
 use Rattle.std.specs.List.{filter}
 use Rattle.std.specs.Option.{option_eq, is_some}
@@ -45,7 +46,9 @@ use Rattle.groups.proofs.Standing as on_groups
 use Rattle.groups.proofs.Kept as bits_kept
 use Rattle.groups.proofs.Kept.{ready_waits_not}
 use Rattle.machine.specs.declared.machine.Machine.{Machine}
-use Rattle.machine.specs.StandsFor.{AreNotifications, progress_in, AreSources, RestStandsFor, StandsFor, At, with_progress}
+use Rattle.machine.proofs.AlikeSources.{are_later}
+use Rattle.machine.specs.StandsFor.{AreNotifications, progress_in, AreSources, RestStandsFor, StandsFor, At}
+use Rattle.machine.specs.StandsFor.{released_ticks, with_progress}
 
 -- ---- each task's progress
 
@@ -159,8 +162,17 @@ Kept = ℕ × Option End × List Source × ℕ × List ℕ × (ℕ → Notificat
 abbrev pub kept_of : State → Kept
 kept_of s = (s.steps, s.stopped, s.sources, s.sections, s.variables, s.notifications)
 
--- The clock represents the new state; each task keeps its place in its script, and what is kept beside the parts stays.
+-- The sources are kept if no fewer ticks have passed.
+pub sources_on : (k : Machine) (s new : State) → new.sources ≡ s.sources → released_ticks s ≤ released_ticks new
+    → AreSources (released_ticks s) k.sources s.sources → AreSources (released_ticks new) k.sources new.sources
+sources_on k s new same since are =
+    subst (AreSources (released_ticks new) k.sources) (sym same)
+    (are_later (released_ticks s) (released_ticks new) k.sources s.sources since are)
+
+-- The clock represents the new state, up to which no fewer ticks have passed; each task keeps its place in its script, and what is
+-- kept beside the parts stays.
 module _ {k : Machine} {s new : State} {v : Schedule} {t : Timeline} (h : RestStandsFor k s) (on : clock.StandsFor t new)
+    (since : released_ticks s ≤ released_ticks new)
     (progress : (i : ℕ) → progress_at new i ≡ progress_at s i) (kept : kept_of new ≡ kept_of s) where
   -- the objects and the groups are given too; the guess at the next interrupt may be another
   pub rest_with : {q : Objects} {g : EventGroups} {next : ℕ} → objects.StandsFor q None new
@@ -175,7 +187,7 @@ module _ {k : Machine} {s new : State} {v : Schedule} {t : Timeline} (h : RestSt
     awake = locked;
     notifications = subst (AreNotifications k.notifications) (sym (ap (λ (x : Kept). x.5) kept)) h.notifications;
     variables = h.variables ∙ sym (ap (λ (x : Kept). x.4) kept);
-    sources = subst (AreSources k.sources) (sym (ap (λ (x : Kept). x.2) kept)) h.sources;
+    sources = sources_on k s new (ap (λ (x : Kept). x.2) kept) since h.sources;
     sections = h.sections ∙ sym (ap (λ (x : Kept). x.3) kept);
     steps = h.steps ∙ sym (ap (λ (x : Kept). x.0) kept);
     stopped = h.stopped ∙ sym (ap (λ (x : Kept). x.1) kept);
@@ -201,14 +213,15 @@ module _ {k : Machine} {s new : State} {v : Schedule} {t : Timeline} (h : RestSt
 pub rest_again : {k : Machine} {s : State} {v : Schedule} {t : Timeline} {q : Objects} {g : EventGroups} {next : ℕ}
     → RestStandsFor k s → clock.StandsFor t s → objects.StandsFor q None s → groups.StandsFor g s
     → RestStandsFor (record k { sched = v; clock = t; objects = q; groups = g; next_interrupt = next }) s
-rest_again h on left there = rest_with h on (λ _. refl) refl left h.awake there
+rest_again h on left there = rest_with h on (omega arith) (λ _. refl) refl left h.awake there
 
 -- A task's progress changes, in the kernel and in its state, and is not in Place; the same tasks wait.
 pub rest_moved : {k : Machine} {s new : State} {v : Schedule} → RestStandsFor k s → clock.StandsFor k.clock new
-    → kept_of new ≡ kept_of s → (i : ℕ) (t : Task) → i < length s.tasks → length s.tasks ≤ 32
+    → released_ticks s ≤ released_ticks new → kept_of new ≡ kept_of s → (i : ℕ) (t : Task)
+    → i < length s.tasks → length s.tasks ≤ 32
     → new.tasks ≡ set s.tasks i t → t.progress.call.phase ≢ Place → SameWaits s new → SameEventWaits s new
     → RestStandsFor (record k { progress = set k.progress i t.progress; sched = v }) new
-rest_moved {k} {s} {new} h on kept i t l few is off waits bits =
+rest_moved {k} {s} {new} h on since kept i t l few is off waits bits =
     let n = h.full in
     let m : i < length k.progress = omega arith in
     record {
@@ -220,7 +233,7 @@ rest_moved {k} {s} {new} h on kept i t l few is off waits bits =
       awake = at_locked_same None s new waits h.awake;
       notifications = subst (AreNotifications k.notifications) (sym (ap (λ (x : Kept). x.5) kept)) h.notifications;
       variables = h.variables ∙ sym (ap (λ (x : Kept). x.4) kept);
-      sources = subst (AreSources k.sources) (sym (ap (λ (x : Kept). x.2) kept)) h.sources;
+      sources = sources_on k s new (ap (λ (x : Kept). x.2) kept) since h.sources;
       sections = h.sections ∙ sym (ap (λ (x : Kept). x.3) kept);
       steps = h.steps ∙ sym (ap (λ (x : Kept). x.0) kept);
       stopped = h.stopped ∙ sym (ap (λ (x : Kept). x.1) kept);
@@ -250,7 +263,8 @@ rest_unseen {k} {s} {new} h table same sections steps stopped =
       awake = at_locked_same None s new waits h.awake;
       notifications = subst (AreNotifications k.notifications) (sym (ap (λ (x : Seen). x.8) same)) h.notifications;
       variables = h.variables ∙ sym (ap (λ (x : Seen). x.7) same);
-      sources = subst (AreSources k.sources) (sym (ap (λ (x : Seen). x.6) same)) h.sources;
+      sources = sources_on k s new (ap (λ (x : Seen). x.6) same)
+          (let e : released_ticks new ≡ released_ticks s = ap (λ (x : Seen). x.2.0 - x.2.1) same in omega (arith, e)) h.sources;
       sections = sections;
       steps = steps;
       stopped = stopped;
@@ -303,7 +317,7 @@ module _ (k : Machine) (s : State) (h : StandsFor k s) (i : ℕ) (l : i < length
       let c =
       on_clock.stands_kept k.clock s (make_ready i s) i t h.rest.clock l
       refl refl refl alike (table-make_ready s i h.sched.table) in
-      rest_with_clock h.rest c (progress-kept s.tasks i t refl) refl
+      rest_with_clock h.rest c (omega arith) (progress-kept s.tasks i t refl) refl
       (same_ready i s (ready_free u on)) (bits_kept.same_ready i s (ready_waits_not s i on))
 
   -- a Ready task begins to sleep
@@ -319,7 +333,7 @@ module _ (k : Machine) (s : State) (h : StandsFor k s) (i : ℕ) (l : i < length
             rw blocks (on_sched.stands_blocked k.sched s new i u h.sched l refl refl refl refl
             refl refl c.table (sym (on_sched.ready_unsuspended (status_at s i) on)));
         rest =
-            rest_with_clock h.rest c (progress-kept s.tasks i u refl) refl
+            rest_with_clock h.rest c (omega arith) (progress-kept s.tasks i u refl) refl
             (same_ticket i (Asleep wake_time) s refl (ready_free (status_at s i) on))
             (bits_kept.same_ticket i (Asleep wake_time) s refl (ready_waits_not s i on));
       })
@@ -338,7 +352,8 @@ module _ (k : Machine) (s : State) (h : StandsFor k s) (i : ℕ) (l : i < length
       record {
         sched = on_sched.stands_kept k.sched s new i t h.sched l refl refl refl refl refl refl table refl;
         rest =
-            rest_moved h.rest c refl i t l h.sched.table.few refl off (same_progress i p s) (bits_kept.same_task i t s refl wants);
+            rest_moved h.rest c (omega arith) refl i t l h.sched.table.few refl off (same_progress i p s)
+            (bits_kept.same_task i t s refl wants);
       }
 
   -- it goes on at an op, of this many, which isn't past the last one
@@ -366,7 +381,7 @@ module _ (k : Machine) (s : State) (h : StandsFor k s) (i : ℕ) (l : i < length
             rw blocks (on_sched.stands_blocked k.sched s new i t h.sched l refl refl
             refl refl refl refl table (sym (on_sched.ready_unsuspended u ready)));
         rest =
-            rest_moved h.rest c refl i t l h.sched.table.few refl (λ e. absurd (cc))
+            rest_moved h.rest c (omega arith) refl i t l h.sched.table.few refl (λ e. absurd (cc))
             (same_free i t s refl (ready_free u ready)) (bits_kept.same_free i t s refl (ready_waits_not s i ready));
       })
 

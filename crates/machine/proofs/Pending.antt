@@ -1,23 +1,25 @@
 -- Which interrupts are pending, in the kernel and in each state that it represents.
 use Rattle.std.proofs.Common.{◌≡◌, ◌≢◌, ◌∙◌, ◌<◌, ◌≤◌, ◌+◌, ℕ, zero, suc, Bool, true, false, eqb, List, [], ◌∷◌, get_or, set}
 use Rattle.std.proofs.Common.{length, map}
-use Rattle.std.proofs.Common.{ltb, ltb-false, refl, ap, sym, subst, arith, get_or-set_same, get_or-set_other}
+use Rattle.std.proofs.Common.{ltb, ltb-false, refl, ap, ap₂, sym, subst, arith, get_or-set_same, get_or-set_other}
 use Rattle.std.specs.List.{filter, range_with_len, list_any}
 use Rattle.std.proofs.Math.ListN.{length-set}
 use Rattle.std.proofs.lemmas.Bool.{ltb-true}
+use Rattle.std.proofs.Math.ListN.{get_or-map}
 use Rattle.std.proofs.lemmas.List.{get_or_past, length-map, set_past}
 use Rattle.model.specs.declared.event.Event.{Event}
 use Rattle.model.specs.State.{State, Source, no_source, source_at}
-use Rattle.model.specs.Handlers.{pend, pending_of, none_pending}
+use Rattle.model.specs.Handlers.{pending_of, none_pending}
 use Rattle.model.specs.Invariant.{IsNonePending}
 use Rattle.model.proofs.Sorting.{by_test}
 use Rattle.model.proofs.Lists.{eqb-same, eqb-refl}
 use Rattle.soundness.proofs.Pending.{AreNonePending, not_pending, none_now}
 use Rattle.machine.specs.declared.machine.Machine.{Machine}
-use Rattle.machine.specs.Sources.{Sources, is_pending}
-use Rattle.machine.specs.StandsFor.{AreSources, Stands, AtAny}
+use Rattle.machine.specs.declared.arrivals.Arrival.{Arrival}
+use Rattle.machine.specs.Arrivals.{arrival_in}
+use Rattle.machine.specs.Sources.{Sources, is_pending, source_from, source_of}
+use Rattle.machine.specs.StandsFor.{AreSources, Stands, released_ticks}
 use Rattle.machine.specs.Can.{NonePends}
-use Rattle.machine.proofs.Beside.{with_sources}
 use Rattle.machine.proofs.Either.{sources_are}
 
 -- ---- nothing is pending
@@ -26,11 +28,18 @@ each_none : (xs : List Source) → ((source : ℕ) → (get_or xs source no_sour
 each_none [] h = tt
 each_none (x ∷ xs) h = (h 0, each_none xs (λ source. h (suc source)))
 
+pending_same : (now : ℕ) (v : Sources) (xs : List Source) → AreSources now v xs → (source : ℕ)
+    → is_pending v source ≡ (get_or xs source no_source).pending
+pending_same now v xs are source = ap (λ (x : Source). x.pending) (are.same source)
+
 pub none_by : (k : Machine) (s : State) → NonePends k → Stands k s → IsNonePending s
-none_by k s none h = each_none s.sources (λ source. sym ((sources_are k s h).pending source) ∙ none source)
+none_by k s none h =
+    each_none s.sources (λ source. sym (pending_same (released_ticks s) k.sources s.sources (sources_are k s h) source)
+    ∙ none source)
 
 pub none_pends : (k : Machine) (s : State) → Stands k s → IsNonePending s → NonePends k
-none_pends k s h none = λ source. (sources_are k s h).pending source ∙ not_pending s.sources source none
+none_pends k s h none =
+    λ source. pending_same (released_ticks s) k.sources s.sources (sources_are k s h) source ∙ not_pending s.sources source none
 
 -- The code looks at one flag for it.
 pub none_of_any : (ps : List Bool) → list_any (λ p. p) ps ≡ false → (source : ℕ) → get_or ps source false ≡ false
@@ -45,73 +54,66 @@ any_of_none (p ∷ ps) h = rw (h 0) (any_of_none ps (λ source. h (suc source)))
 
 -- ---- a handler becomes pending
 
-are_pended : (v : Sources) (xs : List Source) (i : ℕ) → AreSources v xs → i < length xs
-    → AreSources (record v { pending = set v.pending i true }) (set xs i (record (get_or xs i no_source) { pending = true }))
-are_pended v xs i are l = record {
-  number = are.number ∙ sym (length-set xs i (record (get_or xs i no_source) { pending = true }));
-  pending = λ source. by_test (eqb source i)
-      (λ t.
-      let e : source ≡ i = eqb-same source i t in
-      rw e (get_or-set_same v.pending i true false (let full = are.full in let few = are.few in omega arith)
-      ∙ sym
-      (ap (λ (x : Source). x.pending) (get_or-set_same xs i (record (get_or xs i no_source) { pending = true }) no_source l))))
-      (λ t.
-      let apart : source ≢ i = (λ e. let u : eqb source i ≡ true = ap (λ (k : ℕ). eqb k i) e ∙ eqb-refl i in absurd (cc)) in
-      get_or-set_other v.pending i source true false apart
-      ∙ are.pending source
-      ∙ sym (ap (λ (x : Source). x.pending)
-      (get_or-set_other xs i source (record (get_or xs i no_source) { pending = true }) no_source apart)));
-  full = length-set v.pending i true ∙ are.full;
-  few = let n = length-set xs i (record (get_or xs i no_source) { pending = true }) in let few = are.few in omega arith;
-}
+pub are_pended : (now : ℕ) (v w : Sources) (xs : List Source) (i : ℕ) → AreSources now v xs
+    → (i < v.number → w ≡ record v { pending = set v.pending i true }) → (v.number ≤ i → w ≡ v)
+    → AreSources now w (set xs i (record (get_or xs i no_source) { pending = true }))
+are_pended now v w xs i are pends past = by_test (ltb i (length xs))
+    (λ t.
+    let l : i < length xs = ltb-true i (length xs) t in
+    subst (λ (u : Sources). AreSources now u (set xs i x)) (sym (pends (rw are.number l))) (pended l))
+    (λ t.
+    let le : length xs ≤ i = ltb-false i (length xs) t in
+    subst (λ (u : Sources). AreSources now u (set xs i x)) (sym (past (rw are.number le)))
+    (subst (AreSources now v) (sym (set_past xs i x le)) are)) where
+      x : Source
+      x = record (get_or xs i no_source) { pending = true }
 
-pub pended_at : (k : Machine) (log : List Event) (s : State) (i : ℕ) (v : Sources) → AtAny k log s
-    → (i < k.sources.number → v ≡ record k.sources { pending = set k.sources.pending i true })
-    → (k.sources.number ≤ i → v ≡ k.sources) → AtAny (record k { sources = v }) log (pend i s)
-pended_at k log s i v h pends past =
-    let are : AreSources k.sources s.sources = sources_are k s h.stands in
-    let x : Source = record (source_at s i) { pending = true } in
-    by_test (ltb i (length s.sources))
-    (λ t.
-    let l : i < length s.sources = ltb-true i (length s.sources) t in
-    let is : v ≡ record k.sources { pending = set k.sources.pending i true } = pends (rw are.number l) in
-    record {
-      stands = with_sources k s h.stands v (set s.sources i x)
-          (subst (λ (w : Sources). AreSources w (set s.sources i x)) (sym is) (are_pended k.sources s.sources i are l));
-      log = h.log;
-    })
-    (λ t.
-    let le : length s.sources ≤ i = ltb-false i (length s.sources) t in
-    let is : v ≡ k.sources = past (rw are.number le) in
-    let same : set s.sources i x ≡ s.sources = set_past s.sources i x le in
-    record {
-      stands = with_sources k s h.stands v (set s.sources i x)
-          (subst (λ (w : Sources). AreSources w (set s.sources i x)) (sym is) (subst (AreSources k.sources) (sym same) are));
-      log = h.log;
-    })
+      new : Sources
+      new = record v { pending = set v.pending i true }
+
+      pended : i < length xs → AreSources now new (set xs i x)
+      pended l = record {
+        number = are.number ∙ sym (length-set xs i x);
+        same = λ source. by_test (eqb source i)
+            (λ t.
+            rw (eqb-same source i t)
+            (ap (λ (b : Bool). source_from now (source_of b (arrival_in v.arrivals i)))
+            (get_or-set_same v.pending i true false (let full = are.full.0 in let few = are.few in omega arith))
+            ∙ ap (λ (y : Source). record y { pending = true }) (are.same i)
+            ∙ ap (source_from now) (sym (get_or-set_same xs i x no_source l))))
+            (λ t.
+            let apart : source ≢ i = (λ e. let u : eqb source i ≡ true = ap (λ (k : ℕ). eqb k i) e ∙ eqb-refl i in absurd (cc)) in
+            ap (λ (b : Bool). source_from now (source_of b (arrival_in v.arrivals source)))
+            (get_or-set_other v.pending i source true false apart)
+            ∙ are.same source
+            ∙ ap (source_from now) (sym (get_or-set_other xs i source x no_source apart)));
+        full = (length-set v.pending i true ∙ are.full.0, are.full.1);
+        few = let n = length-set xs i x in let few = are.few in omega arith;
+      }
 
 -- ---- nothing is pending any more
 
-pub cleared_at : (k : Machine) (log : List Event) (s : State) (v : Sources) → AtAny k log s
-    → v.number ≡ k.sources.number → ((source : ℕ) → is_pending v source ≡ false) → length v.pending ≡ 17
-    → AtAny (record k { sources = v }) log (none_pending s)
-cleared_at k log s v h number none full =
-    let are : AreSources k.sources s.sources = sources_are k s h.stands in
-    let xs : List Source = map (λ (x : Source). record x { pending = false }) s.sources in
-    let many : length xs ≡ length s.sources = length-map s.sources (λ (x : Source). record x { pending = false }) in
+pub are_cleared : (now : ℕ) (v w : Sources) (xs : List Source) → AreSources now v xs
+    → w ≡ record v { pending = w.pending } → ((source : ℕ) → is_pending w source ≡ false) → length w.pending ≡ 17
+    → AreSources now w (map (λ (x : Source). record x { pending = false }) xs)
+are_cleared now v w xs are rest none full =
+    let ys : List Source = map (λ (x : Source). record x { pending = false }) xs in
+    let many : length ys ≡ length xs = length-map xs (λ (x : Source). record x { pending = false }) in
+    let kept : w.arrivals ≡ v.arrivals = ap (λ (u : Sources). u.arrivals) rest in
     record {
-      stands = with_sources k s h.stands v xs (record {
-        number = number ∙ are.number ∙ sym many;
-        pending = λ source. none source ∙ sym (not_pending xs source (none_now s.sources));
-        full = full;
-        few = rw many are.few;
-      });
-      log = h.log;
+      number = ap (λ (u : Sources). u.number) rest ∙ are.number ∙ sym many;
+      same = λ source.
+          ap₂ (λ (b : Bool) (a : Arrival). source_from now (source_of b a)) (none source)
+          (ap (λ (each : List Arrival). arrival_in each source) kept)
+          ∙ ap (λ (y : Source). record y { pending = false }) (are.same source)
+          ∙ ap (source_from now) (sym (get_or-map (λ (x : Source). record x { pending = false }) xs source no_source));
+      full = (full, ap (λ (each : List Arrival). length each) kept ∙ are.full.1);
+      few = rw many are.few;
     }
 
 -- ---- which are
 
-same_filter : (p q : ℕ → Bool) (is : List ℕ) → ((i : ℕ) → p i ≡ q i) → filter p is ≡ filter q is
+pub same_filter : (p q : ℕ → Bool) (is : List ℕ) → ((i : ℕ) → p i ≡ q i) → filter p is ≡ filter q is
 same_filter p q [] same = refl
 same_filter p q (i ∷ is) same =
     by_test (q i)
@@ -122,7 +124,7 @@ none_from : (p : ℕ → Bool) (i m : ℕ) → ((j : ℕ) → i ≤ j → p j �
 none_from p i zero none = refl
 none_from p i (suc m) none = rw (none i (omega arith)) (none_from p (i + 1) m (λ j l. none j (omega arith)))
 
-none_past : (p : ℕ → Bool) (i n m : ℕ) → ((j : ℕ) → i + n ≤ j → p j ≡ false) → n ≤ m
+pub none_past : (p : ℕ → Bool) (i n m : ℕ) → ((j : ℕ) → i + n ≤ j → p j ≡ false) → n ≤ m
     → filter p (range_with_len i m) ≡ filter p (range_with_len i n)
 none_past p i zero m none le = none_from p i m (λ j l. none j (omega arith))
 none_past p i (suc n) zero none le = absurd (omega arith)
@@ -134,8 +136,9 @@ none_past p i (suc n) (suc m) none le =
 pub pending_are : (k : Machine) (s : State) → Stands k s
     → pending_of s ≡ filter (λ source. is_pending k.sources source) (range_with_len 0 17)
 pending_are k s h =
-    let are : AreSources k.sources s.sources = sources_are k s h in
+    let are : AreSources (released_ticks s) k.sources s.sources = sources_are k s h in
     let p : ℕ → Bool = λ source. (source_at s source).pending in
     sym (none_past p 0 (length s.sources) 17
     (λ j l. ap (λ (x : Source). x.pending) (get_or_past s.sources j no_source (omega arith))) are.few)
-    ∙ same_filter p (λ source. is_pending k.sources source) (range_with_len 0 17) (λ i. sym (are.pending i))
+    ∙ same_filter p (λ source. is_pending k.sources source) (range_with_len 0 17)
+    (λ i. sym (pending_same (released_ticks s) k.sources s.sources are i))

@@ -40,7 +40,7 @@ use Rattle.groups.proofs.Standing as on_groups
 use Rattle.groups.proofs.Kept as bits_kept
 use Rattle.model.specs.Invariant.{IsTable}
 use Rattle.machine.specs.declared.machine.Machine.{Machine}
-use Rattle.machine.specs.StandsFor.{StandsFor, At}
+use Rattle.machine.specs.StandsFor.{StandsFor, At, released_ticks}
 use Rattle.machine.specs.Can.{AreThere, AreToWake}
 use Rattle.machine.proofs.Parts.{apart_back, kept_of, progress-kept, rest_with, same_parts, sched-same}
 
@@ -171,6 +171,10 @@ pub kept-all_ready : (is : List ℕ) (s : State) → kept_of (for_each make_read
 kept-all_ready [] s = refl
 kept-all_ready (i ∷ is) s = kept-all_ready is (make_ready i s)
 
+pub released-all_ready : (is : List ℕ) (s : State) → released_ticks (for_each make_ready is s) ≡ released_ticks s
+released-all_ready [] s = refl
+released-all_ready (i ∷ is) s = released-all_ready is (make_ready i s)
+
 -- If nothing holds the scheduler no tick is held.
 pub ticks_not_held : (v : Schedule) (s : State) → sched.StandsFor v s → v.depth ≡ 0 → holds_ticks s ≡ false
 ticks_not_held v s h none =
@@ -212,7 +216,8 @@ module _ (k : Machine) (log : List Event) (s : State) (h : At k log s) (ticks : 
             record {
               sched = ready;
               rest =
-                  rest_with h.stands.rest on (progress-all_ready ds next) (kept-all_ready ds next)
+                  rest_with h.stands.rest on (let e = released-all_ready ds next in omega (arith, e)) (progress-all_ready ds next)
+                  (kept-all_ready ds next)
                   left (at_locked-all_ready None ds next come_at) bits;
             };
         log = h.log ∙ sym (log-all_ready ds next);

@@ -1,4 +1,5 @@
 pub mod Logged
+pub mod Arrivals
 pub mod Sources
 pub mod Loops
 pub mod StandsFor

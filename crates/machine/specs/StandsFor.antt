@@ -1,5 +1,5 @@
 -- What a kernel represents: a state of the definitions, whose tickets it doesn't have.
-use Rattle.std.specs.Prelude.{◌≡◌, ◌≢◌, ℕ, ◌+◌, ◌≤◌, true, List, [], ◌∷◌, Option, Some, None, length, slice_index_or}
+use Rattle.std.specs.Prelude.{◌≡◌, ◌≢◌, ℕ, ◌+◌, ◌-◌, ◌≤◌, true, List, [], ◌∷◌, Option, Some, None, length, slice_index_or}
 use Rattle.std.specs.Prelude.{slice_set}
 use Rattle.std.specs.Prelude.{if◌then◌else◌}
 use Rattle.model.specs.declared.call.Phase.TheVariants.{Place}
@@ -17,7 +17,7 @@ use Rattle.objects.specs.Objects as objects
 use Rattle.groups.specs.StandsFor as groups
 use Rattle.machine.specs.declared.machine.Machine.{Machine}
 use Rattle.machine.specs.Logged.{Logged}
-use Rattle.machine.specs.Sources.{Sources, is_pending}
+use Rattle.machine.specs.Sources.{Sources, source_from, source_in}
 
 -- the progress that the kernel keeps of this task
 abbrev pub progress_in : List Progress → ℕ → Progress
@@ -36,11 +36,16 @@ pub record AreNotifications (kept : List Notification) (notifications : ℕ → 
   pub same : (task : ℕ) → notification_in kept task ≡ notifications task
   pub full : length kept ≡ 32
 
--- The code keeps in 17 places which of these sources are pending.
-pub record AreSources (kept : Sources) (sources : List Source) : Type 0 where
+-- how many of the elapsed ticks aren't held
+abbrev pub released_ticks : State → ℕ
+released_ticks s = s.elapsed - s.held_ticks
+
+-- It keeps these sources after so many ticks, in 17 places. Since when a source can come doesn't matter.
+pub record AreSources (elapsed : ℕ) (kept : Sources) (sources : List Source) : Type 0 where
   pub number : kept.number ≡ length sources
-  pub pending : (source : ℕ) → is_pending kept source ≡ (slice_index_or sources source no_source).pending
-  pub full : length kept.pending ≡ 17
+  pub same : (source : ℕ) → source_from elapsed (source_in kept source)
+      ≡ source_from elapsed (slice_index_or sources source no_source)
+  pub full : (length kept.pending ≡ 17) × (length kept.arrivals ≡ 17)
   pub few : length sources ≤ 17
 
 -- all but the scheduler, if no task has begun to wait without being in its lists yet
@@ -53,7 +58,7 @@ pub record RestStandsFor (k : Machine) (s : State) : Type 0 where
   pub awake : AtLocked None s
   pub notifications : AreNotifications k.notifications s.notifications
   pub variables : k.variables ≡ s.variables
-  pub sources : AreSources k.sources s.sources
+  pub sources : AreSources (released_ticks s) k.sources s.sources
   pub sections : k.sections ≡ s.sections
   pub steps : k.steps ≡ s.steps
   pub stopped : k.stopped ≡ s.stopped
@@ -61,8 +66,8 @@ pub record RestStandsFor (k : Machine) (s : State) : Type 0 where
 
 -- Each task's place in its script is kept as it is. The scheduler represents which tasks are Ready, which one runs and what holds
 -- it, and the clock the time and which task wakes when. The objects represent what they hold, which tasks wait at them, and which
--- one is locked, and the groups their bits, and which tasks wait for them or for a notification. Beside them the notifications and
--- the variables are kept, which interrupt sources are pending, and how many critical sections are open.
+-- one is locked, and the groups their bits, and which tasks wait for them or for a notification. Beside them the notifications,
+-- the variables and the interrupt sources are kept, and how many critical sections are open.
 pub record StandsFor (k : Machine) (s : State) : Type 0 where
   pub sched : sched.StandsFor k.sched s
   pub rest : RestStandsFor k s
@@ -83,7 +88,7 @@ pub record StandsBefore (task : ℕ) (list : WaitList) (k : Machine) (s : State)
   pub full : length k.progress ≡ 32
   pub notifications : AreNotifications k.notifications s.notifications
   pub variables : k.variables ≡ s.variables
-  pub sources : AreSources k.sources s.sources
+  pub sources : AreSources (released_ticks s) k.sources s.sources
   pub sections : k.sections ≡ s.sections
   pub steps : k.steps ≡ s.steps
   pub stopped : k.stopped ≡ s.stopped

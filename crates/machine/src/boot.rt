@@ -113,7 +113,7 @@ impl Machine {
             groups: Groups::new(),
             notifications: Notifications::new(),
             variables: Variables::new(app.variables()),
-            sources: Sources::new(app.handlers().len()),
+            sources: Sources::new(app.handlers()),
             sections: 0,
             wait_list: NO_WAIT_LIST,
             next_interrupt: 0,

@@ -4,7 +4,6 @@ ghost use Rattle.model.specs.State.{no_progress};
 ghost use Rattle.machine.specs.StandsFor.{AreBlankFrom, progress_in};
 ghost use Rattle.machine.specs.Fronts.{with_blanks};
 
-use crate::boot::without_tasks;
 use crate::progress::Progress;
 use model::Memory;
 use std::alloc::Global;
@@ -57,12 +56,23 @@ pub(crate) fn save_front(
     Ok(())
 }
 
-/// Makes it that of these first tasks, with nothing done after them.
-pub(crate) fn fill_from(progress: &mut [Progress; 32], front: &[Progress])
-    requires { length front.now ≤ 32 }
-    ensures { progress.new ≡ with_blanks front.now }
+/// The tasks from the first of these two to before the second have done nothing then; the second counts as 32 if it is more.
+fn clear_between(progress: &mut [Progress; 32], first: usize, end: usize)
+    ensures cleared { (task : ℕ) → first ≤ task → task < min end 32 → progress_in progress.new task ≡ no_progress }
+    ensures same { (task : ℕ) → end ≤ task → progress_in progress.new task ≡ progress_in progress.old task }
+    ensures full { length progress.new ≡ 32 }
 {
-    *progress = without_tasks();
+    for task in first..end.min(32) {
+        progress[task] = Progress::new(0);
+    }
+}
+
+/// Makes it that of these first tasks, with nothing done after them, if no task after so many has done anything.
+pub(crate) fn fill_from(progress: &mut [Progress; 32], front: &[Progress], tasks: usize)
+    requires { length front.now ≤ 32 }
+    ensures { AreBlankFrom tasks progress.old → progress.new ≡ with_blanks front.now }
+{
+    clear_between(progress, front.len(), tasks);
     progress[..front.len()].copy_from_slice(front);
 }
 

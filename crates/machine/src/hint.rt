@@ -41,9 +41,12 @@ impl Machine {
     /// first op with nothing done.
     pub fn hint(&self, tasks: usize) -> u64 {
         let runs = self.sched.current().map(|task| task.number as u64);
-        let time = mixed(self.clock.now(), self.clock.elapsed());
+        let elapsed = mixed(self.clock.now(), self.clock.elapsed());
+        let time = elapsed ^ self.clock.quiet_ticks() as u64;
         let counts = self.objects.hint();
-        let shared = counts ^ self.variables.hint() ^ self.notifications.hint();
+        let sources = self.sources.hint(self.clock.age());
+        let kept = self.notifications.hint() ^ sources.rotate_left(16);
+        let shared = counts ^ self.variables.hint() ^ kept;
         let mut hash = mixed(mixed(time, shared ^ self.steps as u64), numbered(runs));
         for task in 0..tasks.min(32) {
             if !self.progress[task].is_first() {

@@ -2,6 +2,7 @@
 #![tactic(auto)]
 
 mod answering;
+mod arrivals;
 mod boot;
 mod deadlines;
 mod front;
@@ -19,6 +20,7 @@ mod trail;
 mod variables;
 
 pub use answering::one_if;
+pub use arrivals::{Arrival, Arrivals, DueSources};
 pub use boot::NO_WAIT_LIST;
 pub use deadlines::{place_sleeper, place_sleeper_for};
 pub use log::{Log, StepLog};

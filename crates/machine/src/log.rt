@@ -5,8 +5,8 @@ ghost use Rattle.machine.specs.Logged.{Logged};
 use arrayvec::ArrayVec;
 use model::Event;
 
-/// The events that one step reports: there is room for 640, and no step reports more.
-pub type StepLog = ArrayVec<Event, 640>;
+/// The events that one step reports: there is room for 2048, and no step reports more.
+pub type StepLog = ArrayVec<Event, 2048>;
 
 /// What takes the events of a step, one after the other.
 pub trait Log {
@@ -22,10 +22,10 @@ pub trait Log {
 }
 
 // The log of one step alone.
-impl Log for ArrayVec<Event, 640> {
+impl Log for ArrayVec<Event, 2048> {
     ghost use Rattle.std.specs.Prelude.{[], ◌-◌, length};
 
-    ghost logged = { λ log. record { before = []; told = log.items; room = 640 - length log.items } };
+    ghost logged = { λ log. record { before = []; told = log.items; room = 2048 - length log.items } };
 
     #[inline]
     fn push(&mut self, event: Event) {

@@ -1,8 +1,8 @@
 //! A kernel as it once was.
-ghost use Rattle.std.specs.Prelude.{◌≡◌, ◌≤◌, length, true, IfOk};
-ghost use Rattle.model.specs.State.{State};
+ghost use Rattle.std.specs.Prelude.{◌≡◌, ◌≤◌, List, length, true, IfOk};
+ghost use Rattle.model.specs.State.{Source, State};
 ghost use Rattle.machine.specs.Fronts.{with_blanks};
-ghost use Rattle.machine.specs.StandsFor.{AreBlankFrom, Stands};
+ghost use Rattle.machine.specs.StandsFor.{AreBlankFrom, AreSources, Stands};
 
 use crate::front::{fill_from, front_of, is_same_progress, save_front};
 use crate::machine::Machine;
@@ -139,11 +139,11 @@ impl Machine {
         true
     }
 
-    /// Becomes the kernel of a snapshot, in place. It takes no memory.
-    pub fn restore(&mut self, snapshot: &Snapshot)
-        ensures { self.new ≡ snapshot.now }
+    /// Becomes the kernel of a snapshot, in place, if none of its tasks after so many has done anything. It takes no memory.
+    pub fn restore(&mut self, snapshot: &Snapshot, tasks: usize)
+        ensures { AreBlankFrom tasks self.old.progress → self.new ≡ snapshot.now }
     {
-        fill_from(&mut self.progress, snapshot.progress.as_slice());
+        fill_from(&mut self.progress, snapshot.progress.as_slice(), tasks);
         self.sched.set_from(&snapshot.sched);
         self.clock.set_from(&snapshot.clock);
         self.objects.restore(&snapshot.objects);
@@ -158,11 +158,14 @@ impl Machine {
         self.stopped = snapshot.stopped;
     }
 
-    /// Whether the kernel, which is of so many tasks, is the same as in this snapshot, whatever its event groups are.
+    /// Whether the kernel, which is of so many tasks, is the same as in this snapshot, whatever its event groups are, and since when
+    /// its interrupt sources can come.
     fn is_same_but_groups(&self, snapshot: &Snapshot, tasks: usize) -> bool
         ensures steps { result ≡ true → self.now.steps ≡ snapshot.now.steps }
         ensures same { result ≡ true → AreBlankFrom tasks self.now.progress
-            → self.now ≡ record snapshot.now { groups = self.now.groups } }
+            → self.now ≡ record snapshot.now { groups = self.now.groups; sources = self.now.sources } }
+        ensures sources { result ≡ true → (xs : List Source)
+            → AreSources self.now.clock.age self.now.sources xs → AreSources self.now.clock.age snapshot.now.sources xs }
     {
         if self.steps != snapshot.steps
             || self.next_interrupt != snapshot.next_interrupt
@@ -175,14 +178,15 @@ impl Machine {
         self.clock.is_same(&snapshot.clock)
             && self.variables.is_same(&snapshot.variables)
             && self.notifications.is_same(&snapshot.notifications)
-            && self.sources.is_same(&snapshot.sources)
+            && self.sources.is_same(&snapshot.sources, self.clock.age())
             && self.sched.is_same(&snapshot.sched)
             && is_same_progress(&self.progress, snapshot.progress.as_slice(), tasks)
             && self.objects.is_at(&snapshot.objects)
     }
 
     /// Whether the kernel, which is of so many tasks, is as it was in this snapshot: then that represents each state that the kernel
-    /// represents. What lists, queues, loops and event groups have kept of entries, items, turns and waits that are gone doesn't count.
+    /// represents. What lists, queues, loops and event groups have kept of entries, items, turns and waits that are gone doesn't count,
+    /// nor since when an interrupt source can come again.
     pub fn is_at(&self, snapshot: &Snapshot, tasks: usize) -> bool
         ensures steps { result ≡ true → self.now.steps ≡ snapshot.now.steps }
         ensures stands { result ≡ true → AreBlankFrom tasks self.now.progress

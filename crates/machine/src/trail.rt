@@ -35,7 +35,7 @@ impl Model for Trail {
 
     ghost view = { λ t. record { before = take t.start t.events.items; told = drop t.start t.events.items; room = vec_capacity t.events - length t.events.items } };
 
-    ghost invariant = { λ t. (t.start ≤ length t.events.items) × (t.roomy_below ≤ vec_capacity t.events - 127) };
+    ghost invariant = { λ t. (t.start ≤ length t.events.items) × (t.roomy_below ≤ vec_capacity t.events - 511) };
 }
 
 impl Trail {
@@ -73,14 +73,14 @@ impl Trail {
         self.events.len() == self.start
     }
 
-    /// The next step begins. It has reported nothing yet, and there is room for 128 events of it. At `Err(Memory)` the
+    /// The next step begins. It has reported nothing yet, and there is room for 512 events of it. At `Err(Memory)` the
     /// growth was refused, and there is less room.
     #[inline]
     pub fn begin(&mut self) -> Result<(), Memory>
         ensures before { self.new.before ≡ all_of self.old }
         ensures told { self.new.told ≡ [] }
-        ensures room { OnOk result (128 ≤ self.new.room) }
-        ensures refused { OnErr result (self.new.room < 128) }
+        ensures room { OnOk result (512 ≤ self.new.room) }
+        ensures refused { OnErr result (self.new.room < 512) }
     {
         self.start = self.events.len();
         if self.start < self.roomy_below {
@@ -89,24 +89,24 @@ impl Trail {
         self.make_room()
     }
 
-    /// Makes room for 128 events more, or for many. At `Err(Memory)` the growth was refused, and there is less room.
+    /// Makes room for 512 events more, or for many. At `Err(Memory)` the growth was refused, and there is less room.
     #[cold]
     #[inline(never)]
     fn make_room(&mut self) -> Result<(), Memory>
         ensures before { self.new.before ≡ self.old.before }
         ensures told { self.new.told ≡ self.old.told }
-        ensures room { OnOk result (128 ≤ self.new.room) }
-        ensures refused { OnErr result (self.new.room < 128) }
+        ensures room { OnOk result (512 ≤ self.new.room) }
+        ensures refused { OnErr result (self.new.room < 512) }
     {
         if self.events.len() >= FEW && self.events.capacity() < MANY {
             // If room for this many is refused, there may be room for one step.
             let more = MANY - self.events.len();
             let _refused = self.events.reserve_exact(more).is_err();
         }
-        if self.events.reserve(128).is_err() {
+        if self.events.reserve(512).is_err() {
             return Err(Memory);
         }
-        self.roomy_below = self.events.capacity() - 127;
+        self.roomy_below = self.events.capacity() - 511;
         Ok(())
     }
 

@@ -1,11 +1,13 @@
 -- What is among a list, what holds of all of it, and lists in which nothing is there twice.
-use Rattle.std.proofs.Common.{◌≡◌, ◌≢◌, ◌⊎◌, ◌<◌, ◌+◌, ℕ, zero, suc, List, [], ◌∷◌, ◌++◌, length, get_or, map, refl, ap, sym, ◌∙◌}
+use Rattle.std.proofs.Common.{◌≡◌, ◌≢◌, ◌⊎◌, ◌<◌, ◌+◌, ℕ, zero, suc, Bool, true, List, [], ◌∷◌, ◌++◌, length, get_or, map, refl, ap}
+use Rattle.std.proofs.Common.{sym, ◌∙◌}
 use Rattle.std.proofs.Common.{subst, inl, inr, arith}
 use Rattle.std.specs.Prelude.{Contains}
-use Rattle.std.specs.List.{AllByRecursion, flat_map}
+use Rattle.std.specs.List.{AllByRecursion, filter, flat_map}
 use Rattle.std.proofs.lemmas.List.Elements.{Contains-append_left, Contains-append_right}
 use Rattle.std.proofs.lemmas.List.{map-append}
 use Rattle.model.specs.Placements.{AreDistinct}
+use Rattle.model.proofs.Sorting.{by_test}
 
 module _ {X : Type 0} where
   pub first_is : (x : X) (xs : List X) → Contains (x ∷ xs) x
@@ -68,6 +70,36 @@ module _ {X : Type 0} (P : X → Type 0) where
         (flat_map g ys)
     all_flat g [] h = tt
     all_flat g (y ∷ ys) h = all_append (g y) (flat_map g ys) h.0 (all_flat g ys h.1)
+
+  module _ (test : X → Bool) where
+    -- of those that pass the test, also that
+    pub all_filter : (xs : List X) → AllByRecursion P xs → AllByRecursion (λ x. P x × (test x ≡ true)) (filter test xs)
+    all_filter [] h = tt
+    all_filter (x ∷ xs) h = by_test (test x)
+        (λ t. rw t ((h.0, t), all_filter xs h.1))
+        (λ t. rw t (all_filter xs h.1))
+
+    pub all_kept : (xs : List X) → AllByRecursion P xs → AllByRecursion P (filter test xs)
+    all_kept [] h = tt
+    all_kept (x ∷ xs) h = by_test (test x) (λ t. rw t (h.0, all_kept xs h.1)) (λ t. rw t (all_kept xs h.1))
+
+module _ {X : Type 0} (test : X → Bool) where
+  pub among_filter : (xs : List X) (x : X) → Contains xs x → test x ≡ true → Contains (filter test xs) x
+  among_filter [] x h passes = none_is x h
+  among_filter (y ∷ ys) x h passes = elim (first_or_later y ys x h) [
+    | inl e ↦
+        (let first : test y ≡ true = subst (λ (z : X). test z ≡ true) e passes in
+        rw first (subst (λ (z : X). Contains (y ∷ filter test ys) z) (sym e) (first_is y (filter test ys))))
+    | inr r ↦ by_test (test y)
+        (λ t. rw t (later_is y (filter test ys) x (among_filter ys x r passes)))
+        (λ t. rw t (among_filter ys x r passes))
+  ]
+
+  pub distinct_filter : (xs : List X) → AreDistinct xs → AreDistinct (filter test xs)
+  distinct_filter [] h = tt
+  distinct_filter (x ∷ xs) h = by_test (test x)
+      (λ t. rw t (all_kept (λ y. y ≢ x) test xs h.0, distinct_filter xs h.1))
+      (λ t. rw t (distinct_filter xs h.1))
 
 module _ {X Y : Type 0} where
   pub among_map : (f : X → Y) (xs : List X) (x : X) → Contains xs x → Contains (map f xs) (f x)

@@ -4,9 +4,8 @@ use Rattle.std.proofs.lemmas.Bool.{cases_lt, cases_eq}
 use Rattle.model.specs.declared.event.Event.{Event}
 use Rattle.model.specs.declared.event.End.{End}
 use Rattle.model.specs.declared.plan.Injection.{Injection}
-use Rattle.model.specs.Points.{first_step}
 use Rattle.model.specs.Application.{Application, Limits}
-use Rattle.model.specs.Run.{Run, IsRun, IsRow, state_after, events_after, end_of}
+use Rattle.model.specs.Run.{Run, IsRun, IsRow, is_reached, state_after, events_after, end_of}
 
 -- runs by their parts
 made : {a b : Run} → a.events ≡ b.events → a.steps ≡ b.steps → a.ticks ≡ b.ticks → a.end ≡ b.end → a ≡ b
@@ -43,12 +42,13 @@ module _ (app : Application) (plan : List Injection) (limits : Limits)
 -- ---- rows
 
 module _ (app : Application) (limits : Limits) (point : List Injection) where
-  -- The base run doesn't both get beyond the first injection and end before it.
-  not_both : (base row : Run) → IsRun app [] limits base → first_step point < base.steps
-      → IsRun app [] limits row → row.steps ≤ first_step point → ⊥
-  not_both base row h beyond k ends =
+  -- The point isn't both reached and not.
+  not_both : (base row : Run) → IsRun app [] limits base → is_reached app limits point base.steps ≡ true
+      → IsRun app [] limits row → is_reached app limits point row.steps ≡ false → ⊥
+  not_both base row h reached k missed =
       let same : base.steps ≡ row.steps = ap (λ (r : Run). r.steps) (one_run app [] limits base row h k) in
-      omega (arith, beyond, ends, same)
+      let both : true ≡ false = sym reached ∙ ap (is_reached app limits point) same ∙ missed in
+      absurd (cc)
 
   pub one_row : (here there : Bool) (a b : Run) → IsRow app limits point here a → IsRow app limits point there b
       → (here ≡ there) × (a ≡ b)

@@ -16,11 +16,13 @@ use Rattle.model.specs.State.{State}
 use Rattle.model.specs.Step.{step}
 use Rattle.model.specs.Run.{Run, IsRun, end_of, events_after, injected, state_after}
 use Rattle.model.specs.Placements.{AreAll, AreDistinct, IsPlacement, Placed, before_this, begun, choices, ended, extensions}
-use Rattle.model.specs.Placements.{placed_at, sequences, unless_ended}
+use Rattle.model.specs.Placements.{can_all_come, placed_at, possible, sequences, unless_ended}
 use Rattle.model.proofs.Sorting.{by_test}
 use Rattle.model.proofs.Injected.{none_below}
-use Rattle.model.proofs.Among.{all_after, all_among, all_append, all_before, all_flat, all_if, all_map, all_of_both, all_weaker}
-use Rattle.model.proofs.Among.{among_flat, among_map, distinct_append, distinct_flat, distinct_map, first_is, map_flat, none_is}
+use Rattle.model.proofs.Among.{all_after, all_among, all_append, all_before, all_filter, all_flat, all_if, all_map, all_of_both}
+use Rattle.model.proofs.Among.{all_weaker}
+use Rattle.model.proofs.Among.{among_filter, among_flat, among_map, distinct_append, distinct_filter, distinct_flat, distinct_map}
+use Rattle.model.proofs.Among.{first_is, map_flat, none_is}
 
 -- ---- lists of handlers
 
@@ -274,6 +276,10 @@ module _ (app : Application) (limits : Limits) (handlers : List ℕ) (most : ℕ
   abbrev pub end_at : List Injection → ℕ → Option End
   end_at plan n = end_of app limits (state_after app limits plan n)
 
+  -- The injections before this step can come there.
+  abbrev pub can_come_at : List Injection → ℕ → Bool
+  can_come_at plan n = can_all_come app (injected plan n) (state_after app limits plan n)
+
   -- injections before this step, in a run that gets so far
   pub record IsBegun (n : ℕ) (plan : List Injection) : Type 0 where
     pub few : length plan ≤ most
@@ -281,13 +287,22 @@ module _ (app : Application) (limits : Limits) (handlers : List ℕ) (most : ℕ
     pub named : AllByRecursion (λ (i : Injection). Contains handlers i.handler) plan
     pub below : AreBelow n plan
     pub goes_on : (m : ℕ) → m < n → end_at plan m ≡ None
+    pub can : (m : ℕ) → m < n → can_come_at plan m ≡ true
 
   same_end : (p q : List Injection) (n : ℕ) → ((m : ℕ) → m < n → injected p m ≡ injected q m) → end_at p n ≡ end_at q n
   same_end p q n agree = ap (λ (s : State). end_of app limits s) (same_before app limits p q n agree)
 
+  -- plans that agree up to a step and at it
+  same_can : (p q : List Injection) (n : ℕ) → ((m : ℕ) → m < n → injected p m ≡ injected q m)
+      → injected p n ≡ injected q n → can_come_at p n ≡ can_come_at q n
+  same_can p q n agree here =
+      ap (λ (s : State). can_all_come app (injected p n) s) (same_before app limits p q n agree)
+      ∙ ap (λ (now : List ℕ). can_all_come app now (state_after app limits q n)) here
+
   pub extended : (n : ℕ) (plan : List Injection) (now : List ℕ) → IsBegun n plan → end_at plan n ≡ None
-      → length now ≤ most - length plan → AllByRecursion (Contains handlers) now → IsBegun (suc n) (plan ++ before_this n now)
-  extended n plan now h goes few named =
+      → length now ≤ most - length plan → AllByRecursion (Contains handlers) now
+      → can_all_come app now (state_after app limits plan n) ≡ true → IsBegun (suc n) (plan ++ before_this n now)
+  extended n plan now h goes few named can =
       let before : (m k : ℕ) → m ≤ n → k < m → injected (plan ++ before_this n now) k ≡ injected plan k =
       λ m k l less. extended_before plan n now k (omega (arith, l, less)) in
       record {
@@ -310,42 +325,66 @@ module _ (app : Application) (limits : Limits) (handlers : List ℕ) (most : ℕ
             (λ t.
             let apart : m ≢ n = λ e. (let w = eq-eqb m n e in absurd (cc)) in
             same_end (plan ++ before_this n now) plan m (λ k less. before m k (omega arith) less) ∙ h.goes_on m (omega arith));
+        can = λ m l. by_test (eqb m n)
+            (λ t.
+            let here : m ≡ n = eqb-true m n t in
+            subst (λ (k : ℕ). can_come_at (plan ++ before_this n now) k ≡ true) (sym here)
+            (ap (λ (s : State). can_all_come app (injected (plan ++ before_this n now) n) s)
+            (same_before app limits (plan ++ before_this n now) plan n (λ k less. before n k (omega arith) less))
+            ∙ ap (λ (all : List ℕ). can_all_come app all (state_after app limits plan n)) (extended_at plan n now h.below) ∙ can))
+            (λ t.
+            let apart : m ≢ n = λ e. (let w = eq-eqb m n e in absurd (cc)) in
+            let less : m < n = omega arith in
+            same_can (plan ++ before_this n now) plan m (λ k low. before m k (omega arith) low) (before n m (omega arith) less)
+            ∙ h.can m less);
       }
 
   all_extended : (n : ℕ) (plan : List Injection) → IsBegun n plan → (o : Option End) → end_at plan n ≡ o
-      → AllByRecursion (IsBegun (suc n)) (unless_ended o (extensions handlers most n plan))
+      → AllByRecursion (IsBegun (suc n)) (unless_ended o (extensions app limits handlers most n plan))
   all_extended n plan h (Some end) goes = tt
   all_extended n plan h None goes =
-      all_map (IsBegun (suc n)) (λ now. plan ++ before_this n now) (choices handlers (most - length plan))
-      (all_weaker (λ now. (length now ≤ most - length plan) × AllByRecursion (Contains handlers) now)
-      (λ now. IsBegun (suc n) (plan ++ before_this n now)) (λ now is. extended n plan now h goes is.0 is.1)
-      (choices handlers (most - length plan)) (choices_are handlers (most - length plan)))
+      let all = choices handlers (most - length plan) in
+      let s : State = state_after app limits plan n in
+      all_map (IsBegun (suc n)) (λ now. plan ++ before_this n now) (possible app s all)
+      (all_weaker
+      (λ now. ((length now ≤ most - length plan) × AllByRecursion (Contains handlers) now) × (can_all_come app now s ≡ true))
+      (λ now. IsBegun (suc n) (plan ++ before_this n now)) (λ now is. extended n plan now h goes is.0.0 is.0.1 is.1)
+      (possible app s all)
+      (all_filter (λ now. (length now ≤ most - length plan) × AllByRecursion (Contains handlers) now)
+      (λ now. can_all_come app now s) all (choices_are handlers (most - length plan))))
 
   pub all_begun : (n : ℕ) → AllByRecursion (IsBegun n) (begun app limits handlers most n)
   all_begun zero = (
-    record { few = omega arith; in_order = tt; named = tt; below = tt; goes_on = λ m l. absurd (omega arith) },
+    record {
+      few = omega arith;
+      in_order = tt;
+      named = tt;
+      below = tt;
+      goes_on = λ m l. absurd (omega arith);
+      can = λ m l. absurd (omega arith);
+    },
     tt,
   )
   all_begun (suc n) =
-      all_flat (IsBegun (suc n)) (λ plan. unless_ended (end_at plan n) (extensions handlers most n plan))
+      all_flat (IsBegun (suc n)) (λ plan. unless_ended (end_at plan n) (extensions app limits handlers most n plan))
       (begun app limits handlers most n)
       (all_weaker (IsBegun n)
-      (λ plan. AllByRecursion (IsBegun (suc n)) (unless_ended (end_at plan n) (extensions handlers most n plan)))
+      (λ plan. AllByRecursion (IsBegun (suc n)) (unless_ended (end_at plan n) (extensions app limits handlers most n plan)))
       (λ plan h. all_extended n plan h (end_at plan n) refl) (begun app limits handlers most n) (all_begun n))
 
   -- ---- each placement is had
 
   until_begun : (n : ℕ) (plan : List Injection) → length plan ≤ most → AreInOrder plan
       → AllByRecursion (λ (i : Injection). Contains handlers i.handler) plan → ((m : ℕ) → m < n → end_at plan m ≡ None)
-      → Contains (begun app limits handlers most n) (until n plan)
-  until_begun zero plan few order named goes =
+      → ((m : ℕ) → m < n → can_come_at plan m ≡ true) → Contains (begun app limits handlers most n) (until n plan)
+  until_begun zero plan few order named goes can =
       subst (λ (is : List Injection). Contains ([] ∷ []) is)
       (sym (until_none 0 plan (all_if (λ (i : Injection). 0 ≤ i.step) plan (λ i is. omega arith)))) (first_is [] [])
-  until_begun (suc n) plan few order named goes =
+  until_begun (suc n) plan few order named goes can =
       let first = until n plan in
       let now = injected plan n in
       let here : Contains (begun app limits handlers most n) first =
-      until_begun n plan few order named (λ m l. goes m (omega arith)) in
+      until_begun n plan few order named (λ m l. goes m (omega arith)) (λ m l. can m (omega arith)) in
       let none : end_at first n ≡ None =
       same_end first plan n (λ m l. injected_until n m plan l) ∙ goes n (omega arith) in
       let more : until (suc n) plan ≡ first ++ before_this n now = until_more n plan order in
@@ -353,14 +392,20 @@ module _ (app : Application) (limits : Limits) (handlers : List ℕ) (most : ℕ
       (let all = until_few (suc n) plan in
       let long = ap length more in
       omega (arith, all, long, few, length-append first (before_this n now), length_these n now)) in
-      let chosen : Contains (extensions handlers most n first) (first ++ before_this n now) =
-      among_map (λ (hs : List ℕ). first ++ before_this n hs) (choices handlers (most - length first)) now
-      (choices_have handlers now (most - length first) (all_injected handlers n plan named) room) in
-      let there : Contains (unless_ended (end_at first n) (extensions handlers most n first)) (first ++ before_this n now) =
-      subst (λ (o : Option End). Contains (unless_ended o (extensions handlers most n first)) (first ++ before_this n now))
+      let chosen : Contains (extensions app limits handlers most n first) (first ++ before_this n now) =
+      among_map (λ (hs : List ℕ). first ++ before_this n hs)
+      (possible app (state_after app limits first n) (choices handlers (most - length first))) now
+      (among_filter (λ hs. can_all_come app hs (state_after app limits first n)) (choices handlers (most - length first)) now
+      (choices_have handlers now (most - length first) (all_injected handlers n plan named) room)
+      (ap (λ (s : State). can_all_come app now s) (same_before app limits first plan n (λ m l. injected_until n m plan l))
+      ∙ can n (omega arith))) in
+      let there : Contains (unless_ended (end_at first n) (extensions app limits handlers most n first))
+      (first ++ before_this n now) =
+      subst (λ (o : Option End). Contains (unless_ended o (extensions app limits handlers most n first))
+      (first ++ before_this n now))
       (sym none) chosen in
       subst (Contains (begun app limits handlers most (suc n))) (sym more)
-      (among_flat (λ (p : List Injection). unless_ended (end_at p n) (extensions handlers most n p))
+      (among_flat (λ (p : List Injection). unless_ended (end_at p n) (extensions app limits handlers most n p))
       (begun app limits handlers most n) first (first ++ before_this n now) here there)
 
   abbrev placed : ℕ → List Injection → List Placed
@@ -403,7 +448,7 @@ module _ (app : Application) (limits : Limits) (handlers : List ℕ) (most : ℕ
             (let all : until run.steps p.injections ≡ p.injections = until_all run.steps p.injections h.come in
             let here : Contains (begun app limits handlers most run.steps) p.injections =
             subst (Contains (begun app limits handlers most run.steps)) all
-            (until_begun run.steps p.injections h.few h.in_order h.named h.is_run.goes_on) in
+            (until_begun run.steps p.injections h.few h.in_order h.named h.is_run.goes_on h.can) in
             later_ended (suc run.steps) n p (omega arith)
             (Contains-append_right (ended app limits handlers most run.steps)
             (flat_map (placed run.steps) (begun app limits handlers most run.steps)) p
@@ -413,7 +458,8 @@ module _ (app : Application) (limits : Limits) (handlers : List ℕ) (most : ℕ
             none_is (until n p.injections)
             (subst (λ (plans : List (List Injection)). Contains plans (until n p.injections)) none
             (until_begun n p.injections h.few h.in_order h.named
-            (λ k l. h.is_run.goes_on k (let le : n ≤ run.steps = m in omega arith))))
+            (λ k l. h.is_run.goes_on k (let le : n ≤ run.steps = m in omega arith))
+            (λ k l. h.can k (let le : n ≤ run.steps = m in omega arith))))
       ]
 
   -- ---- each that is had is a placement
@@ -434,6 +480,7 @@ module _ (app : Application) (limits : Limits) (handlers : List ℕ) (most : ℕ
       };
       is_run = record { goes_on = h.goes_on; ends = e; trace = refl; elapsed = refl };
       come = h.below;
+      can = h.can;
       steps = refl;
       ticks = refl;
       end = refl;
@@ -452,33 +499,37 @@ module _ (app : Application) (limits : Limits) (handlers : List ℕ) (most : ℕ
 
   -- ---- none is had twice
 
+  -- the choices that can come before this step
+  abbrev can_now : ℕ → List Injection → List (List ℕ)
+  can_now n plan = possible app (state_after app limits plan n) (choices handlers (most - length plan))
+
   extensions_differ : AreDistinct handlers → (n : ℕ) (plan : List Injection) → AreBelow n plan → (o : Option End)
-      → AreDistinct (unless_ended o (extensions handlers most n plan))
+      → AreDistinct (unless_ended o (extensions app limits handlers most n plan))
   extensions_differ differ n plan below (Some end) = tt
   extensions_differ differ n plan below None =
       distinct_map (λ (now : List ℕ). plan ++ before_this n now) (λ (longer : List Injection). injected longer n)
-      (choices handlers (most - length plan))
-      (all_if (λ now. injected (plan ++ before_this n now) n ≡ now) (choices handlers (most - length plan))
-      (λ now is. extended_at plan n now below))
-      (choices_differ handlers differ (most - length plan))
+      (can_now n plan)
+      (all_if (λ now. injected (plan ++ before_this n now) n ≡ now) (can_now n plan) (λ now is. extended_at plan n now below))
+      (distinct_filter (λ now. can_all_come app now (state_after app limits plan n)) (choices handlers (most - length plan))
+      (choices_differ handlers differ (most - length plan)))
 
   lead_back : (n : ℕ) (plan : List Injection) → AreBelow n plan → (o : Option End)
-      → AllByRecursion (λ longer. until n longer ≡ plan) (unless_ended o (extensions handlers most n plan))
+      → AllByRecursion (λ longer. until n longer ≡ plan) (unless_ended o (extensions app limits handlers most n plan))
   lead_back n plan below (Some end) = tt
   lead_back n plan below None =
-      all_map (λ longer. until n longer ≡ plan) (λ now. plan ++ before_this n now) (choices handlers (most - length plan))
-      (all_if (λ now. until n (plan ++ before_this n now) ≡ plan) (choices handlers (most - length plan))
-      (λ now is. until_extended n plan now below))
+      all_map (λ longer. until n longer ≡ plan) (λ now. plan ++ before_this n now) (can_now n plan)
+      (all_if (λ now. until n (plan ++ before_this n now) ≡ plan) (can_now n plan) (λ now is. until_extended n plan now below))
 
   begun_differ : AreDistinct handlers → (n : ℕ) → AreDistinct (begun app limits handlers most n)
   begun_differ differ zero = (tt, tt)
   begun_differ differ (suc n) =
-      distinct_flat (λ (plan : List Injection). unless_ended (end_at plan n) (extensions handlers most n plan)) (until n)
+      distinct_flat (λ (plan : List Injection). unless_ended (end_at plan n) (extensions app limits handlers most n plan)) (until n)
       (begun app limits handlers most n)
       (all_weaker (IsBegun n)
-      (λ plan. AllByRecursion (λ longer. until n longer ≡ plan) (unless_ended (end_at plan n) (extensions handlers most n plan)))
+      (λ plan. AllByRecursion (λ longer. until n longer ≡ plan)
+      (unless_ended (end_at plan n) (extensions app limits handlers most n plan)))
       (λ plan h. lead_back n plan h.below (end_at plan n)) (begun app limits handlers most n) (all_begun n))
-      (all_weaker (IsBegun n) (λ plan. AreDistinct (unless_ended (end_at plan n) (extensions handlers most n plan)))
+      (all_weaker (IsBegun n) (λ plan. AreDistinct (unless_ended (end_at plan n) (extensions app limits handlers most n plan)))
       (λ plan h. extensions_differ differ n plan h.below (end_at plan n)) (begun app limits handlers most n) (all_begun n))
       (begun_differ differ n)
 

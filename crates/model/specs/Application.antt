@@ -19,6 +19,10 @@ pub record Definition : Type 0 where
 pub record Handler : Type 0 where
   pub name : List ℕ
   pub ops : List IsrOp
+  -- An injected one can come at reset (profile).
+  pub armed : Bool
+  -- how many elapsed ticks an injected one comes after the last at least (profile)
+  pub apart : ℕ
 
 -- a base interrupt of the file: at this elapsed tick the handler runs (profile)
 pub record Interrupt : Type 0 where

@@ -224,6 +224,10 @@ pub record IsState (app : Application) (s : State) : Type 0 where
   -- ticks are held only while a call or a `suspend_all` holds the scheduler
   pub held : holds_ticks s ≡ false → s.held_ticks ≡ 0
 
+-- No handler is raised.
+abbrev pub IsNoneRaised : State → Type 0
+IsNoneRaised s = AllByRecursion (λ (x : Source). x.raised ≡ None) s.sources
+
 -- No source is pending.
 abbrev pub IsNonePending : State → Type 0
 IsNonePending s = AllByRecursion (λ (x : Source). x.pending ≡ false) s.sources

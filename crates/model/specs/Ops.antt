@@ -1,5 +1,6 @@
 -- A task's place in its script: an op is complete, a call returns, loops turn.
-use Rattle.std.specs.Prelude.{ℕ, ◌+◌, ◌-◌, ◌==◌, Bool, List, [], ◌∷◌, drop, min, Option, Some, None, nat_lt, nat_le, if◌then◌else◌}
+use Rattle.std.specs.Prelude.{ℕ, ◌+◌, ◌-◌, ◌==◌, Bool, true, false, List, [], ◌∷◌, drop, min, Option, Some, None, nat_lt, nat_le}
+use Rattle.std.specs.Prelude.{if◌then◌else◌}
 use Rattle.model.specs.declared.answer.AnswerCondition.{AnswerCondition}
 use Rattle.model.specs.declared.loops.Loop.{Loop}
 use Rattle.model.specs.declared.event.What.{What}
@@ -8,11 +9,14 @@ use Rattle.std.specs.Option.{option_or}
 use Rattle.model.specs.declared.event.End.{End}
 use Rattle.model.specs.declared.event.End.TheVariants.{Check}
 use Rattle.model.specs.declared.value.ValueOp.{ValueOp}
+use Rattle.model.specs.declared.source.SourceOp.{SourceOp}
+use Rattle.model.specs.declared.source.SourceOp.TheVariants.{Arm, Disarm, Raise, Cancel}
 use Rattle.model.specs.Values.{answer_of, stored}
 use Rattle.model.specs.Answers.{holds}
 use Rattle.model.specs.Blocks.{jump_from}
 use Rattle.model.specs.Application.{Application, op_count, script_of}
 use Rattle.model.specs.State.{State, Progress, Task, Ended, no_call, task_at, progress_at, with_task, with_progress}
+use Rattle.model.specs.State.{source_at, with_source}
 use Rattle.model.specs.Switching.{write, yield_now}
 use Rattle.model.specs.Time.{sleep, set_previous_wake}
 
@@ -90,6 +94,20 @@ store op a s = record s { variables = stored op a s.variables }
 unfoldable pub calculate : Application → ℕ → ValueOp → State → State
 calculate app task op s =
     let a = answer_of s.variables (progress_at s task).answer op in answer app task a (store op a s)
+
+-- ---- interrupt sources (profile)
+
+-- what an op does to an interrupt handler
+abbrev pub do_to_source : ℕ → SourceOp → State → State
+do_to_source handler Arm s = with_source handler (record (source_at s handler) { armed = true }) s
+do_to_source handler Disarm s = with_source handler (record (source_at s handler) { armed = false }) s
+do_to_source handler (Raise ticks) s =
+    with_source handler (record (source_at s handler) { raised = Some (s.elapsed + ticks) }) s
+do_to_source handler Cancel s = with_source handler (record (source_at s handler) { raised = None }) s
+
+-- The task does so. It returns nothing.
+unfoldable pub control : Application → (task handler : ℕ) → SourceOp → State → State
+control app task handler op s = complete app task (progress_at s task) (do_to_source handler op s)
 
 -- ---- critical sections
 

@@ -1,13 +1,15 @@
 -- Placements: the ways in which up to so many handlers can come during a run, and what is found among all of them.
 use Rattle.std.specs.Prelude.{◌≡◌, ◌≢◌, ◌⊎◌, ⊤, ℕ, zero, suc, ◌+◌, ◌-◌, ◌<◌, ◌≤◌, ◌==◌, ◌&&◌, ◌||◌, Bool, true, false}
-use Rattle.std.specs.Prelude.{List, [], ◌∷◌, ◌++◌, Option, Some, None, Contains, length, map, nat_lt}
+use Rattle.std.specs.Prelude.{List, [], ◌∷◌, ◌++◌, Option, Some, None, Contains, length, map, filter, nat_lt, if◌then◌else◌}
 use Rattle.std.specs.List.{AllByRecursion, flat_map}
 use Rattle.model.specs.declared.event.End.{End}
 use Rattle.model.specs.declared.plan.Injection.{Injection}
 use Rattle.model.specs.Points.{AreInOrder}
 use Rattle.model.specs.Application.{Application, Limits}
 use Rattle.model.specs.State.{State}
-use Rattle.model.specs.Run.{Run, IsRun, end_of, state_after}
+use Rattle.model.specs.Switching.{is_critical}
+use Rattle.model.specs.Handlers.{can_come, inject, pend, serve_pending}
+use Rattle.model.specs.Run.{Run, IsRun, end_of, injected, state_after}
 
 -- injections, and the run with all of them
 pub record Placed : Type 0 where
@@ -16,8 +18,22 @@ pub record Placed : Type 0 where
   pub ticks : ℕ
   pub end : End
 
--- A placement of at most so many injections of these handlers: they are in the order of their steps, and the run with all of
--- them gets to each.
+-- Each of these can come in its turn, if they come so, one after another.
+abbrev pub can_come_so : (ℕ → State → State) → List ℕ → State → Bool
+can_come_so deed [] s = true
+can_come_so deed (source ∷ sources) s = can_come s source && can_come_so deed sources (deed source s)
+
+-- Each of these that are injected before a step can come.
+abbrev pub can_come_before : Application → List ℕ → State → Bool
+can_come_before app sources s =
+    if is_critical s then can_come_so (pend app) sources s else can_come_so (inject app) sources (serve_pending app s)
+
+-- the same if the step begins in this state, and so has reported nothing yet
+abbrev pub can_all_come : Application → List ℕ → State → Bool
+can_all_come app sources s = can_come_before app sources (record s { log = [] })
+
+-- A placement of at most so many injections of these handlers: they are in the order of their steps, the run with all of them gets
+-- to each, and each can come there.
 pub record IsPlacement (app : Application) (limits : Limits) (handlers : List ℕ) (most : ℕ) (p : Placed) : Type 0 where
   pub few : length p.injections ≤ most
   pub in_order : AreInOrder p.injections
@@ -25,6 +41,7 @@ pub record IsPlacement (app : Application) (limits : Limits) (handlers : List �
   pub run : Run
   pub is_run : IsRun app p.injections limits run
   pub come : AllByRecursion (λ (i : Injection). i.step < run.steps) p.injections
+  pub can : (n : ℕ) → n < run.steps → can_all_come app (injected p.injections n) (state_after app limits p.injections n) ≡ true
   pub steps : p.steps ≡ run.steps
   pub ticks : p.ticks ≡ run.ticks
   pub end : p.end ≡ run.end
@@ -111,9 +128,14 @@ choices handlers (suc most) = choices handlers most ++ sequences handlers (suc m
 abbrev pub before_this : (step : ℕ) → (handlers : List ℕ) → List Injection
 before_this step handlers = map (λ handler. record { step = step; handler = handler }) handlers
 
--- these injections, and then each choice of as many as are left before this step
-abbrev pub extensions : (handlers : List ℕ) → (most step : ℕ) → List Injection → List (List Injection)
-extensions handlers most step plan = map (λ now. plan ++ before_this step now) (choices handlers (most - length plan))
+-- those of these choices that can come before a step, from this state
+abbrev pub possible : Application → State → List (List ℕ) → List (List ℕ)
+possible app s all = filter (λ now. can_all_come app now s) all
+
+-- these injections, and then each choice of as many as are left that can come before this step
+abbrev pub extensions : Application → Limits → (handlers : List ℕ) → (most step : ℕ) → List Injection → List (List Injection)
+extensions app limits handlers most step plan = map (λ now. plan ++ before_this step now)
+    (possible app (state_after app limits plan step) (choices handlers (most - length plan)))
 
 -- none at an end
 abbrev pub unless_ended : {X : Type 0} → Option End → List X → List X
@@ -129,7 +151,7 @@ placed_at plan n s (Some end) = record { injections = plan; steps = n; ticks = s
 abbrev pub begun : Application → Limits → (handlers : List ℕ) → (most n : ℕ) → List (List Injection)
 begun app limits handlers most zero = [] ∷ []
 begun app limits handlers most (suc n) = flat_map
-    (λ plan. unless_ended (end_of app limits (state_after app limits plan n)) (extensions handlers most n plan))
+    (λ plan. unless_ended (end_of app limits (state_after app limits plan n)) (extensions app limits handlers most n plan))
     (begun app limits handlers most n)
 
 -- the placements whose runs have fewer steps

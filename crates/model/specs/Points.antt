@@ -27,6 +27,11 @@ abbrev pub first_step : List Injection → ℕ
 first_step [] = 0
 first_step (i ∷ is) = i.step
 
+-- the handler of the first of them
+abbrev pub first_handler : List Injection → ℕ
+first_handler [] = 0
+first_handler (i ∷ is) = i.handler
+
 -- the step of the last of them
 abbrev pub last_step : List Injection → ℕ
 last_step [] = 0

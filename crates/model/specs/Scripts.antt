@@ -19,6 +19,8 @@ use Rattle.model.specs.declared.value.Value.TheVariants.{Number, Variable}
 use Rattle.model.specs.declared.value.Arithmetic.TheVariants.{Div, Mod}
 use Rattle.model.specs.declared.value.ValueOp.{ValueOp}
 use Rattle.model.specs.declared.value.ValueOp.TheVariants.{Load, Store, Compute}
+use Rattle.model.specs.declared.source.SourceOp.{SourceOp}
+use Rattle.model.specs.declared.source.SourceOp.TheVariants.{Raise}
 use Rattle.model.specs.declared.op.IsrOp.{IsrOp}
 use Rattle.model.specs.declared.op.IsrOp.TheVariants as isr
 use Rattle.model.specs.declared.plan.Injection.{Injection}
@@ -75,6 +77,10 @@ most_handlers = 16
 abbrev pub most_handler_ops : ℕ
 most_handler_ops = 16
 
+-- of elapsed ticks between two comings of a handler, and of ticks until a raised one comes
+abbrev pub most_apart : ℕ
+most_apart = 1000000
+
 -- of base interrupts of an application
 abbrev pub most_interrupts : ℕ
 most_interrupts = 1024
@@ -124,6 +130,11 @@ is_defined (Compute Div (Number n)) = not (n == 0)
 is_defined (Compute Mod (Number n)) = not (n == 0)
 is_defined _ = true
 
+-- A handler is raised for a tick that is 1 to 1,000,000 ticks away.
+abbrev pub is_near : SourceOp → Bool
+is_near (Raise ticks) = is_within 1 most_apart ticks
+is_near _ = true
+
 -- The numbers of an op are in their ranges (profile; of `delay_until` it is that of `xTaskDelayUntil`). A number that is
 -- not named here is any of 32 bits.
 abbrev pub is_in_range : Op → Bool
@@ -136,6 +147,7 @@ is_in_range (ClearBits group mask) = is_mask mask
 is_in_range (WaitBits group condition ticks) = is_mask condition.mask && is_wait ticks
 is_in_range (AwaitNotification wait ticks) = is_wait ticks
 is_in_range (op.Value values) = is_defined values
+is_in_range (op.Source handler what) = is_near what
 is_in_range _ = true
 
 -- the same as a fact
@@ -235,6 +247,10 @@ knows_condition app (IsNot other) = unwrap_or (option_map (knows_value app) othe
 knows_condition app (Below bound) = knows_value app bound
 knows_condition app (Above bound) = knows_value app bound
 
+-- The application has the handler.
+abbrev pub has_handler : Application → ℕ → Bool
+has_handler app handler = nat_lt handler (length app.handlers)
+
 -- The application has what the op speaks of; the daemon's ops are in no file.
 abbrev pub knows : Application → Op → Bool
 knows app (Await object access ticks) = fits_object app object access && may_wait access
@@ -254,6 +270,7 @@ knows app (Resume other) = has_task app other
 knows app (op.Expect condition) = knows_condition app condition
 knows app (op.If condition) = knows_condition app condition
 knows app (op.Value values) = knows_values app values
+knows app (op.Source handler what) = has_handler app handler
 knows app _ = true
 
 -- the same as a fact, of all ops of a task
@@ -270,6 +287,7 @@ knows_isr app (isr.Notify task action) = has_task app task
 knows_isr app (isr.Expect condition) = knows_condition app condition
 knows_isr app (isr.If condition) = knows_condition app condition
 knows_isr app (isr.Value values) = knows_values app values && is_defined values
+knows_isr app (isr.Source handler what) = has_handler app handler && is_near what
 knows_isr app _ = true
 
 -- ---- the application
@@ -284,6 +302,7 @@ IsObjectKind Mutex = Unit {0}
 pub record IsHandler (app : Application) (handler : Handler) : Type 0 where
   pub name : length handler.name ≤ most_name_bytes
   pub few : length handler.ops ≤ most_handler_ops
+  pub near : handler.apart ≤ most_apart
   pub nests : Nests [] (isr_edges_of handler.ops)
   -- each op speaks of what there is
   pub known : AllByRecursion (λ op. knows_isr app op ≡ true) handler.ops

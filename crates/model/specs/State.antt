@@ -123,8 +123,14 @@ pub record Object : Type 0 where
 
 -- what is kept of an interrupt source: a handler, or the tick
 pub record Source : Type 0 where
-  -- it was raised while a critical section was open, and hasn't come yet (the pending bit of an interrupt controller)
+  -- It was injected while a critical section was open, and hasn't come yet (the pending bit of an interrupt controller).
   pub pending : Bool
+  -- It can come if it is injected (the enable bit).
+  pub armed : Bool
+  -- the elapsed tick from which on it can come again
+  pub free_from : ℕ
+  -- the elapsed tick at which it comes by itself, if it is raised
+  pub raised : Option ℕ
 
 -- the whole of the kernel, between two steps
 pub record State : Type 0 where
@@ -229,9 +235,9 @@ object_at s object = slice_index_or s.objects object no_object
 abbrev pub with_object : ℕ → Object → State → State
 with_object object o s = record s { objects = slice_set s.objects object o }
 
--- what is kept if there is no source, and of each source at reset
+-- what is kept if there is no source, and of the tick
 abbrev pub no_source : Source
-no_source = record { pending = false }
+no_source = record { pending = false; armed = true; free_from = 0; raised = None }
 
 -- what is kept of this source
 abbrev pub source_at : State → ℕ → Source

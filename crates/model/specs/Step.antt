@@ -10,6 +10,7 @@ use Rattle.model.specs.declared.op.Op.TheVariants.{Break, Stamp, Since, Await, D
 use Rattle.model.specs.declared.op.Op.TheVariants.{SetBits, ClearBits, GetBits, WaitBits, Suspend, Resume, SuspendAll, ResumeAll}
 use Rattle.model.specs.declared.op.Op.TheVariants.{EnterCritical, ExitCritical, Value, Notify, AwaitNotification, ClearNotification}
 use Rattle.model.specs.declared.op.Op.TheVariants.{NextCommand, Obey}
+use Rattle.model.specs.declared.op.Op.TheVariants as op
 use Rattle.model.specs.declared.op.Access.{Access}
 use Rattle.model.specs.declared.value.Value as value
 use Rattle.model.specs.declared.notification.NotifyAction.{NotifyAction}
@@ -22,14 +23,15 @@ use Rattle.model.specs.declared.event.Misuse.{Misuse}
 use Rattle.model.specs.declared.event.Misuse.TheVariants.{WhileSuspended, NotSuspended, NotHolder, EndedSuspended, WhileCritical}
 use Rattle.model.specs.declared.event.Misuse.TheVariants.{NotCritical, EndedCritical}
 use Rattle.model.specs.Application.{Application, Definition, Handler, Limits, op_at}
-use Rattle.model.specs.State.{State, Task, Object, Status, Ended, no_progress, no_object, no_source, no_notification, status_at}
+use Rattle.model.specs.State.{State, Source, Task, Object, Status, Ended, no_progress, no_object, no_source, no_notification}
+use Rattle.model.specs.State.{status_at}
 use Rattle.model.specs.State.{progress_at}
 use Rattle.model.specs.State.{call_at}
 use Rattle.model.specs.State.{object_at, bits_at, for_one, for_each, printed}
 use Rattle.model.specs.Switching.{write, is_same, make_ready, choice, yield_now, settle, is_scheduler_suspended, is_critical}
 use Rattle.model.specs.Switching.{unless_held}
 use Rattle.model.specs.Ops.{complete, answer, use_up, delay, delay_until, expect, open_loop, close_turn, branch, skip_branch}
-use Rattle.model.specs.Ops.{leave_loop, stamp, since, enter_critical, exit_critical, calculate, fail}
+use Rattle.model.specs.Ops.{leave_loop, stamp, since, enter_critical, exit_critical, calculate, fail, control}
 use Rattle.model.specs.Calls.{await, do_now}
 use Rattle.model.specs.Mutexes.{give_mutex}
 use Rattle.model.specs.Groups.{set_bits, clear, wait_bits}
@@ -85,6 +87,7 @@ act app task ResumeAll s = resume_all app task s
 act app task EnterCritical s = enter_critical app task s
 act app task ExitCritical s = exit_critical app task s
 act app task (Value op) s = calculate app task op s
+act app task (op.Source handler what) s = control app task handler what s
 act app task (NextCommand object) s = next_command app task object (call_at s task).phase s
 act app task Obey s = obey app task (command_at s task) (call_at s task).phase s
 
@@ -193,7 +196,7 @@ act_current app limits (Some task) s = act_if app task (op_at app task (progress
 -- are pending, and then these.
 abbrev pub come_before : Application → List ℕ → State → State
 come_before app sources s =
-    if is_critical s then for_each pend sources s else for_each (inject app) sources (serve_pending app s)
+    if is_critical s then for_each (pend app) sources s else for_each (inject app) sources (serve_pending app s)
 
 -- That is how a step begins, which has reported nothing yet.
 unfoldable pub before_step : Application → List ℕ → State → State
@@ -224,6 +227,10 @@ object_at_reset (Queue size) = record no_object { size = size }
 object_at_reset (Semaphore max_count initial_count) = record no_object { max_count = max_count; count = initial_count }
 object_at_reset Mutex = no_object
 
+-- what is kept of a handler at reset
+abbrev pub source_at_reset : Handler → Source
+source_at_reset handler = record no_source { armed = handler.armed }
+
 -- the kernel when no task has been Ready yet, and idle runs
 unfoldable pub nobody_ready : Application → State
 nobody_ready app = record {
@@ -241,7 +248,7 @@ nobody_ready app = record {
   suspensions = 0;
   held_ticks = 0;
   sections = 0;
-  sources = map (λ (handler : Handler). no_source) app.handlers ++ no_source ∷ [];
+  sources = map source_at_reset app.handlers ++ no_source ∷ [];
   steps = 0;
   stopped = None;
   log = [];

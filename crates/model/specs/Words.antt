@@ -20,6 +20,9 @@ use Rattle.model.specs.declared.value.Arithmetic.{Arithmetic}
 use Rattle.model.specs.declared.value.Arithmetic.TheVariants.{Add, Sub, Mul, Div, Mod, And, Or, Xor}
 use Rattle.model.specs.declared.value.ValueOp.{ValueOp}
 use Rattle.model.specs.declared.value.ValueOp.TheVariants.{Load, Store, Compute}
+use Rattle.model.specs.declared.op.Op.TheVariants as op
+use Rattle.model.specs.declared.source.SourceOp.{SourceOp}
+use Rattle.model.specs.declared.source.SourceOp.TheVariants.{Arm, Disarm, Raise, Cancel}
 use Rattle.model.specs.declared.op.Command.{Command}
 use Rattle.model.specs.declared.op.IsrOp.{IsrOp}
 use Rattle.model.specs.declared.op.IsrOp.TheVariants as isr
@@ -63,6 +66,13 @@ abbrev pub word_of_notification_clear : NotificationClear → List ℕ
 word_of_notification_clear clear.Pending = codes "notify_clear"
 word_of_notification_clear (clear.Bits bits) = codes "notify_value_clear"
 
+-- the first word of the text of an op on interrupt sources
+abbrev pub word_of_source_op : SourceOp → List ℕ
+word_of_source_op Arm = codes "arm"
+word_of_source_op Disarm = codes "disarm"
+word_of_source_op (Raise ticks) = codes "raise"
+word_of_source_op Cancel = codes "cancel"
+
 -- the first word of an op's text
 abbrev pub word_of : Op → List ℕ
 word_of (Work n) = codes "work"
@@ -99,6 +109,7 @@ word_of ResumeAll = codes "resume_all"
 word_of EnterCritical = codes "enter_critical"
 word_of ExitCritical = codes "exit_critical"
 word_of (Value op) = word_of_value_op op
+word_of (op.Source handler what) = word_of_source_op what
 word_of (NextCommand object) = []
 word_of Obey = []
 
@@ -119,6 +130,7 @@ word_of_isr (isr.If condition) = codes "if"
 word_of_isr isr.Else = codes "else"
 word_of_isr isr.EndIf = codes "end"
 word_of_isr (isr.Value op) = word_of_value_op op
+word_of_isr (isr.Source handler what) = word_of_source_op what
 
 -- ---- names
 

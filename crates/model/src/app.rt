@@ -5,10 +5,10 @@ ghost use Rattle.std.specs.List.{list_any};
 ghost use Rattle.model.specs.Application as application;
 ghost use Rattle.model.specs.Application.{commands_of, interrupts_at, is_any_awaited, is_endless, op_at, op_count, ops_of, script_of};
 ghost use Rattle.model.specs.Blocks.{jump_from};
-ghost use Rattle.model.specs.Handlers.{is_tick};
+ghost use Rattle.model.specs.Handlers.{apart_of, is_tick};
 ghost use Rattle.model.specs.Words.{name_of, handler_name_of, handler_named, source_name_of, source_named, isr_op_at};
 ghost use Rattle.model.specs.Coming.{AreComing};
-ghost use Rattle.model.specs.Scripts.{IsScript, IsDefinition, IsWellFormed, most_handler_ops, most_name_bytes, most_ops};
+ghost use Rattle.model.specs.Scripts.{IsScript, IsDefinition, IsWellFormed, most_handler_ops, most_name_bytes, most_ops, most_apart};
 
 use crate::ids::{HandlerId, ObjectId, TaskId};
 use crate::interrupts::{BaseInterrupts, Interrupt};
@@ -130,6 +130,8 @@ fn first_awaited(tasks: &[TaskDefinition]) -> TaskId {
 pub struct HandlerDefinition {
     name: String,
     ops: Vec<IsrOp>,
+    armed: bool,
+    apart: u32,
 }
 
 impl Model for HandlerDefinition {
@@ -138,20 +140,60 @@ impl Model for HandlerDefinition {
 
     ghost Value = { Handler };
 
-    ghost view = { λ h. record { name = string_bytes h.name; ops = h.ops.items } };
+    ghost view = { λ h. record {
+      name = string_bytes h.name;
+      ops = h.ops.items;
+      armed = h.armed;
+      apart = h.apart;
+    } };
 }
 
 impl HandlerDefinition {
     /// The most ops of a handler (profile).
     pub const MOST_OPS: usize = 16;
 
-    /// A handler of this name (at most 16 bytes) and these ops (at most 16).
+    /// The most ticks that a handler may come after its last coming at least (profile).
+    pub const MOST_APART: u32 = 1_000_000;
+
+    /// A handler of this name (at most 16 bytes) and these ops (at most 16). It is armed at reset, and can come at any time.
     pub fn new(name: String, ops: Vec<IsrOp>) -> Self
         requires name { length (string_bytes name) ≤ most_name_bytes }
         requires few { length ops.items ≤ most_handler_ops }
-        ensures { result ≡ record { name = string_bytes name; ops = ops.items } }
+        ensures { result ≡ record { name = string_bytes name; ops = ops.items; armed = true; apart = 0 } }
     {
-        HandlerDefinition { name, ops }
+        HandlerDefinition {
+            name,
+            ops,
+            armed: true,
+            apart: 0,
+        }
+    }
+
+    /// The same handler, but armed at reset or not, and so many elapsed ticks from its last coming at least (at most 1,000,000).
+    pub fn arriving(self, armed: bool, apart: u32) -> Self
+        requires near { apart ≤ most_apart }
+        ensures { result ≡ record self { armed = armed; apart = apart } }
+    {
+        HandlerDefinition {
+            name: self.name,
+            ops: self.ops,
+            armed,
+            apart,
+        }
+    }
+
+    /// Whether it is armed at reset.
+    pub fn armed(&self) -> bool
+        ensures { result ≡ self.now.armed }
+    {
+        self.armed
+    }
+
+    /// How many elapsed ticks it comes after its last coming at least.
+    pub fn apart(&self) -> u32
+        ensures { result ≡ self.now.apart }
+    {
+        self.apart
     }
 
     /// The name.
@@ -531,6 +573,17 @@ impl App {
         match self.handlers.get(handler.number as usize) {
             None => &[],
             Some(definition) => definition.ops(),
+        }
+    }
+
+    /// How many elapsed ticks a handler comes after its last coming at least, if it is injected: 0 to 1,000,000; 0 if there is no such
+    /// handler, or if it is the tick.
+    pub fn apart(&self, handler: HandlerId) -> u32
+        ensures { result ≡ apart_of self.now handler }
+    {
+        match self.handlers.get(handler.number as usize) {
+            None => 0,
+            Some(definition) => definition.apart(),
         }
     }
 

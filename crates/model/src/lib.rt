@@ -18,6 +18,7 @@ mod op;
 mod plan;
 mod run;
 mod script;
+mod source;
 mod totals;
 mod value;
 
@@ -39,5 +40,6 @@ pub use op::{Access, Command, IsrOp, Op};
 pub use plan::{BadPlan, BadPoint, Injection, Injections, Plan, Point, PointEntry, PointRange};
 pub use run::{Ending, Memory, Run};
 pub use script::{NestingFault, Script, ScriptBuilder};
+pub use source::SourceOp;
 pub use totals::Totals;
 pub use value::{Arithmetic, Value, ValueOp};

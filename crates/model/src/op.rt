@@ -2,8 +2,9 @@
 use crate::answer::AnswerCondition;
 use crate::block::Edge;
 use crate::call::Condition;
-use crate::ids::{GroupId, ObjectId, TaskId};
+use crate::ids::{GroupId, HandlerId, ObjectId, TaskId};
 use crate::notification::{NotificationClear, NotificationWait, NotifyAction};
+use crate::source::SourceOp;
 use crate::value::{Value, ValueOp};
 
 /// What a call asks of an object. The items that it puts there are values in a script, and numbers in the kernel.
@@ -245,6 +246,8 @@ pub enum Op {
     ExitCritical,
     /// Loads or stores a variable, or calculates with the last answer (profile).
     Value(ValueOp),
+    /// Arms, disarms, raises or cancels an interrupt handler (profile).
+    Source(HandlerId, SourceOp),
     /// Waits for the next command of this queue: an op of the daemon, which no file has.
     NextCommand(ObjectId),
     /// Does the command that was received: an op of the daemon, which no file has.
@@ -309,6 +312,7 @@ impl Op {
             Op::EnterCritical => "enter_critical",
             Op::ExitCritical => "exit_critical",
             Op::Value(op) => op.word(),
+            Op::Source(_, op) => op.word(),
             Op::NextCommand(_) | Op::Obey => "",
         }
     }
@@ -340,6 +344,8 @@ pub enum IsrOp {
     EndIf,
     /// Loads or stores a variable, or calculates with the answer of the handler's op before (profile).
     Value(ValueOp),
+    /// Arms, disarms, raises or cancels an interrupt handler, perhaps itself (profile).
+    Source(HandlerId, SourceOp),
 }
 
 impl IsrOp {
@@ -375,6 +381,7 @@ impl IsrOp {
             IsrOp::Else => "else",
             IsrOp::EndIf => "end",
             IsrOp::Value(op) => op.word(),
+            IsrOp::Source(_, op) => op.word(),
         }
     }
 }

@@ -166,6 +166,7 @@ impl Op {
             Op::WaitBits(_, condition, ticks) => is_mask(condition.mask) && is_wait(*ticks),
             Op::AwaitNotification(_, ticks) => is_wait(*ticks),
             Op::Value(op) => op.is_defined(),
+            Op::Source(_, op) => op.is_in_range(),
             _ => true,
         }
     }

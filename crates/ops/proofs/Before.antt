@@ -1,6 +1,7 @@
 -- A task is still to be placed: what the calls of handlers make of the states that the kernel represents then.
 use Rattle.std.proofs.Common.{◌≡◌, ◌≢◌, ◌<◌, ℕ, true, false, eqb, ltb, set, List, [], ◌∷◌, length, get_or, Option, Some, None, refl}
 use Rattle.std.proofs.Common.{ap, sym, subst, ◌∙◌}
+use Rattle.std.proofs.Common.{◌≤◌, ◌-◌, arith}
 use Rattle.std.specs.Prelude.{if◌then◌else◌}
 use Rattle.std.specs.List.{AllByRecursion}
 use Rattle.std.specs.Option.{option_map, option_and_then}
@@ -42,9 +43,9 @@ use Rattle.groups.proofs.Standing as on_groups
 use Rattle.groups.proofs.Kept as bits_kept
 use Rattle.groups.proofs.Elsewhere as bits_elsewhere
 use Rattle.machine.specs.declared.machine.Machine.{Machine}
-use Rattle.machine.specs.StandsFor.{AreNotifications, AreSources, StandsBefore, Stands, decider}
+use Rattle.machine.specs.StandsFor.{AreNotifications, StandsBefore, Stands, decider, released_ticks}
 use Rattle.machine.specs.StandsFor.Stands.{Placed, Placing}
-use Rattle.machine.proofs.Parts.{Kept, kept_of, progress-kept, same_parts}
+use Rattle.machine.proofs.Parts.{Kept, kept_of, progress-kept, same_parts, sources_on}
 use Rattle.machine.proofs.Waking.{progress-ready}
 use Rattle.ops.proofs.Waits.{awake_unready, awake_resumes, awake_alike, best, woken_free, waits_there, opened, wakes_it, Unwoken}
 use Rattle.ops.proofs.Waits.{unwoken}
@@ -64,9 +65,10 @@ pub before_with_groups : {task : ℕ} {list : WaitList} {k : Machine} {s new : S
     → clock.StandsBefore task (call_at s task).deadline t new
     → objects.StandsFor q (Some (decider task list s)) new → AtLocked (Some (decider task list s)) new → groups.StandsFor g new
     → ((i : ℕ) → progress_at new i ≡ progress_at s i) → (task_at new task).priority ≡ (task_at s task).priority
-    → kept_of new ≡ kept_of s → new.current ≡ s.current → new.call_hold ≡ s.call_hold
+    → released_ticks s ≤ released_ticks new → kept_of new ≡ kept_of s → new.current ≡ s.current → new.call_hold ≡ s.call_hold
     → StandsBefore task list (record k { sched = v; clock = t; objects = q; groups = g }) new
-before_with_groups {task} {list} {k} {s} {new} {v} {t} {q} {g} b on awake there locked bits progress rank kept runs held = record {
+before_with_groups {task} {list} {k} {s} {new} {v} {t} {q} {g} b on awake there locked bits progress
+    rank since kept runs held = record {
   sched = on;
   clock = subst (λ (p : Progress). clock.StandsBefore task p.call.deadline t new) (sym (progress task)) awake;
   objects =
@@ -77,7 +79,7 @@ before_with_groups {task} {list} {k} {s} {new} {v} {t} {q} {g} b on awake there 
   full = b.full;
   notifications = subst (AreNotifications k.notifications) (sym (ap (λ (x : Kept). x.5) kept)) b.notifications;
   variables = b.variables ∙ sym (ap (λ (x : Kept). x.4) kept);
-  sources = subst (AreSources k.sources) (sym (ap (λ (x : Kept). x.2) kept)) b.sources;
+  sources = sources_on k s new (ap (λ (x : Kept). x.2) kept) since b.sources;
   sections = b.sections ∙ sym (ap (λ (x : Kept). x.3) kept);
   steps = b.steps ∙ sym (ap (λ (x : Kept). x.0) kept);
   stopped = b.stopped ∙ sym (ap (λ (x : Kept). x.1) kept);
@@ -93,16 +95,17 @@ before_with : {task : ℕ} {list : WaitList} {k : Machine} {s new : State} {v : 
     → StandsBefore task list k s → sched.StandsBefore task v new → clock.StandsBefore task (call_at s task).deadline t new
     → objects.StandsFor q (Some (decider task list s)) new → AtLocked (Some (decider task list s)) new → SameEventWaits s new
     → ((i : ℕ) → progress_at new i ≡ progress_at s i) → (task_at new task).priority ≡ (task_at s task).priority
-    → kept_of new ≡ kept_of s → new.current ≡ s.current → new.call_hold ≡ s.call_hold
+    → released_ticks s ≤ released_ticks new → kept_of new ≡ kept_of s → new.current ≡ s.current → new.call_hold ≡ s.call_hold
     → StandsBefore task list (record k { sched = v; clock = t; objects = q }) new
 before_with {k = k} {s = s} {new = new} b on awake there locked bits =
     before_with_groups b on awake there locked (on_groups.stands_same k.groups s new b.groups bits on.table)
 
 -- How many ticks have come, and how many are held, is another number.
 pub before_with_ticks : (k : Machine) (s : State) (task : ℕ) (list : WaitList) → StandsBefore task list k s → (t : Timeline)
-    → (elapsed held : ℕ) → clock.StandsBefore task (call_at s task).deadline t (record s { elapsed = elapsed; held_ticks = held })
+    → (elapsed held : ℕ) → released_ticks s ≤ elapsed - held
+    → clock.StandsBefore task (call_at s task).deadline t (record s { elapsed = elapsed; held_ticks = held })
     → StandsBefore task list (record k { clock = t }) (record s { elapsed = elapsed; held_ticks = held })
-before_with_ticks k s task list b t elapsed held on =
+before_with_ticks k s task list b t elapsed held since on =
     let new : State = record s { elapsed = elapsed; held_ticks = held } in
     let waits : SameWaits s new = same_parts s new refl refl refl in
     before_with b
@@ -119,7 +122,7 @@ before_with_ticks k s task list b t elapsed held on =
     })
     on (stands_same s new waits k.objects (Some (decider task list s)) b.objects on.table)
     (at_locked_same (Some (decider task list s)) s new waits b.awake) (bits_kept.same_parts s new refl refl)
-    (λ i. refl) refl refl refl refl
+    (λ i. refl) refl since refl refl refl
 
 -- ---- it waits in its list, or was woken there
 
@@ -222,7 +225,7 @@ module _ (task : ℕ) (list : WaitList) (k : Machine) (s : State) (b : StandsBef
         table = table;
       } in
       before_with b on awake there (at_locked-stored (Some (decider task list s)) o x s b.awake)
-      (bits_kept.same_object o x s) (λ _. refl) refl refl refl refl
+      (bits_kept.same_object o x s) (λ _. refl) refl (omega arith) refl refl refl
 
   -- someone is Awake, perhaps itself
   pub awakened_before : (i : ℕ) → i < length s.tasks → (q : Objects)
@@ -239,7 +242,8 @@ module _ (task : ℕ) (list : WaitList) (k : Machine) (s : State) (b : StandsBef
       let awake =
       on_clock.stands_before_kept k.clock s (awaken i s) task i (call_at s task).deadline
       t b.clock l refl refl refl (awake_alike (status_at s i)) table in
-      before_with b on awake there locked bits (progress-kept s.tasks i t refl) (priority-kept s.tasks i t refl task) refl refl refl
+      before_with b on awake there locked bits (progress-kept s.tasks i t refl) (priority-kept s.tasks i t refl task)
+      (omega arith) refl refl refl
 
 -- a woken task becomes Ready
 module _ (task : ℕ) (tl : WaitList) (k : Machine) (s : State) (b : StandsBefore task tl k s)
@@ -264,7 +268,8 @@ module _ (task : ℕ) (tl : WaitList) (k : Machine) (s : State) (b : StandsBefor
       let bits = subst (SameEventWaits s) one (bits_elsewhere.same_wake_best list s) in
       let priority = priority-kept s.tasks i (record (task_at s i) { status = Ready s.next_ticket }) refl task in
       subst (StandsBefore task tl (record k { sched = v; clock = t; objects = q })) (sym one)
-      (before_with b (on apart_there l) (awake apart_there l) left locked bits (progress-ready s i) priority refl refl refl)
+      (before_with b (on apart_there l) (awake apart_there l) left locked bits (progress-ready s i) priority
+      (omega arith) refl refl refl)
 
 -- in either case a woken task isn't Ready in the scheduler
 pub woken_free_any : (k : Machine) (s : State) (list : WaitList) (i : ℕ) → Stands k s
@@ -284,7 +289,7 @@ module _ (task : ℕ) (tl : WaitList) (k : Machine) (s : State) (b : StandsBefor
     by_case : Unwoken s list → StandsBefore task tl (record k { objects = q }) (wake_best list s)
     by_case (Nobody one) = subst (StandsBefore task tl (record k { objects = q })) (sym one)
         (before_with b b.sched b.clock (subst (objects.StandsFor q (Some (decider task tl s))) one there)
-        b.awake (bits_kept.same s) (λ _. refl) refl refl refl refl)
+        b.awake (bits_kept.same s) (λ _. refl) refl (omega arith) refl refl refl)
     by_case (Counted i l one) =
         subst (StandsBefore task tl (record k { objects = q })) (sym one)
         (awakened_before task tl k s b i l q (subst (objects.StandsFor q (Some (decider task tl s))) one there)

@@ -24,6 +24,12 @@ use Rattle.model.specs.declared.call.Phase.{Phase}
 use Rattle.model.specs.Application.{Application}
 use Rattle.model.specs.Calls.{await}
 use Rattle.machine.specs.Logged.{Logged}
+use Rattle.std.proofs.Common.{◌+◌, get_or, slice_set, option_map}
+use Rattle.model.specs.declared.value.Value.{Value}
+use Rattle.model.specs.State.{Task, no_task, progress_at, task_at}
+use Rattle.model.specs.Step.{call_with_number}
+use Rattle.model.specs.Values.{with_number}
+use Rattle.model.specs.Waiting.{set_deadline}
 
 -- ---- what is in an object
 
@@ -177,6 +183,42 @@ in_phase app old new old_log new_log task object access ticks phase e d = record
   few = d.few;
   before = d.before;
 }
+
+-- The same of a call whose item is a value.
+pub in_phase_by_value : (app : Application) (old new : Machine) (old_log new_log : Logged)
+    (task object : ℕ) (access : Access Value) (ticks : Option ℕ) (phase : Phase)
+    → (progress_in old.progress task).call.phase ≡ phase
+    → DoesAny 2 old old_log new new_log (λ s. await app task object (call_with_number s task access) ticks phase s)
+    → DoesAny 2 old old_log new new_log
+    (λ s. await app task object (call_with_number s task access) ticks (call_at s task).phase s)
+in_phase_by_value app old new old_log new_log task object access ticks phase e d = record {
+  at = λ s h.
+      let now : (call_at s task).phase ≡ phase = ap (λ (p : Progress). p.call.phase) (sym (progress_is old s h.stands task)) ∙ e in
+      subst (λ (p : Phase). AtAny new new_log.told (await app task object (call_with_number s task access) ticks p s))
+      (sym now) (d.at s h);
+  few = d.few;
+  before = d.before;
+}
+
+-- A task that is another one with the same last answer has it in its place.
+same_answer : (ts : List Task) (i : ℕ) (t : Task) → t.progress.answer ≡ (get_or ts i no_task).progress.answer
+    → (get_or (slice_set ts i t) i no_task).progress.answer ≡ (get_or ts i no_task).progress.answer
+same_answer [] i t e = refl
+same_answer (x ∷ ts) zero t e = e
+same_answer (x ∷ ts) (suc i) t e = same_answer ts i t e
+
+-- The deadline of a call changes neither its task's last answer nor a variable, and so not the number of its value.
+pub same_number : (s : State) (task : ℕ) (ticks : Option ℕ) (access : Access Value)
+    → call_with_number (set_deadline task ticks s) task access ≡ call_with_number s task access
+unfolding set_deadline
+same_number s task ticks access =
+    ap (λ (a : Option ℕ). with_number s.variables a access)
+    (same_answer s.tasks task
+    (record (task_at s task) {
+      progress = record (progress_at s task) {
+        call = record (call_at s task) { deadline = option_map (λ n. s.time + n) ticks };
+      };
+    }) refl)
 
 -- ---- what is left as it was
 

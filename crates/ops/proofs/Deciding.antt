@@ -41,10 +41,12 @@ use Rattle.groups.proofs.Kept as bits_kept
 use Rattle.groups.proofs.Kept.{ready_waits_not}
 use Rattle.groups.proofs.Elsewhere as bits_elsewhere
 use Rattle.machine.specs.declared.machine.Machine.{Machine}
-use Rattle.machine.specs.StandsFor.{AreNotifications, AreSources, StandsBefore, At, AtAny, decider, progress_in, with_progress}
+use Rattle.machine.specs.StandsFor.{AreNotifications, AreSources, StandsBefore, At, AtAny, decider, progress_in, released_ticks}
+use Rattle.machine.specs.StandsFor.{with_progress}
 use Rattle.machine.specs.StandsFor.Stands.{Placing}
 use Rattle.ops.specs.Can.{CanDecide, CanLeave}
 use Rattle.machine.proofs.Parts.{clock-same, progress-set, rest_unseen, rest_with_objects, same_parts, same_alike, sched-same}
+use Rattle.machine.proofs.Parts.{sources_on}
 use Rattle.machine.proofs.Acting.{within}
 use Rattle.machine.proofs.Continuing.{recalled}
 use Rattle.ops.specs.InCall.{IsSilent}
@@ -138,9 +140,9 @@ module _ (s : State) (i : ℕ) (list : WaitList) (object : ℕ) (l : i < length 
   pub begun_free : (begun.call_hold ≡ s.call_hold) × (begun.current ≡ s.current) × (begun.time ≡ s.time)
       × (begun.elapsed ≡ s.elapsed) × (begun.steps ≡ s.steps) × (begun.stopped ≡ s.stopped) × (begun.log ≡ s.log)
       × (begun.sources ≡ s.sources) × (begun.sections ≡ s.sections) × (begun.variables ≡ s.variables)
-      × (begun.notifications ≡ s.notifications)
+      × (begun.notifications ≡ s.notifications) × (begun.held_ticks ≡ s.held_ticks)
   unfolding wait_in
-  begun_free = (refl, refl, refl, refl, refl, refl, refl, refl, refl, refl, refl)
+  begun_free = (refl, refl, refl, refl, refl, refl, refl, refl, refl, refl, refl, refl)
 
   -- the scheduler
   pub sched_decided : (v : Schedule) → v.pending ≡ [] → sched.StandsFor v s → is_ready s i ≡ true → s.call_hold ≡ false
@@ -202,7 +204,7 @@ module _ (k : Machine) (log : List Event) (s : State) (h : At k log s) (i o : �
         stands = record {
           sched = sched-same on table refl refl refl;
           rest =
-              rest_with_objects h.stands.rest c (λ _. refl) refl (stands_same there shut same q None locking table)
+              rest_with_objects h.stands.rest c (omega arith) (λ _. refl) refl (stands_same there shut same q None locking table)
               locked (bits_kept.same_parts s shut refl refl);
         };
         log = h.log;
@@ -297,8 +299,10 @@ module _ (k : Machine) (log : List Event) (s : State) (h : At k log s) (i o : �
           steps_then : k.steps ≡ after.steps
           steps_then = h.stands.rest.steps ∙ sym (begun_free s i list o l).4
 
-          sources_then : AreSources k.sources after.sources
-          sources_then = subst (AreSources k.sources) (sym (begun_free s i list o l).7) h.stands.rest.sources
+          sources_then : AreSources (released_ticks after) k.sources after.sources
+          sources_then =
+              let free = begun_free s i list o l in
+              sources_on k s after free.7 (let e = free.3 in let held = free.11 in omega (arith, e, held)) h.stands.rest.sources
 
           notifications_then : AreNotifications k.notifications after.notifications
           notifications_then =

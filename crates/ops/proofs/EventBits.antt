@@ -1,6 +1,7 @@
 -- Event groups: what a change of their bits, and a wait for them, make of the states that the kernel represents.
 use Rattle.std.proofs.Common.{◌≡◌, ◌≢◌, ◌<◌, ◌+◌, ◌||◌, ℕ, zero, suc, Bool, true, false, eqb, List, [], ◌∷◌, length, get_or, set}
 use Rattle.std.proofs.Common.{Option, Some, None, refl, ap, sym, subst, ◌∙◌}
+use Rattle.std.proofs.Common.{arith}
 use Rattle.std.specs.Prelude.{if◌then◌else◌}
 use Rattle.std.specs.List.{AllByRecursion, filter}
 use Rattle.std.specs.Option.{is_some, option_eq, option_map}
@@ -56,7 +57,7 @@ use Rattle.machine.proofs.Acting.{within, changed}
 use Rattle.machine.proofs.Continuing.{not_placing, recalled}
 use Rattle.ops.proofs.Deciding.{not_held, hold_at}
 use Rattle.machine.proofs.Either.{progress_is}
-use Rattle.machine.proofs.Waking.{kept-all_ready, progress-all_ready, log-all_ready}
+use Rattle.machine.proofs.Waking.{kept-all_ready, progress-all_ready, log-all_ready, released-all_ready}
 
 -- ---- the bits of a group
 
@@ -69,7 +70,7 @@ module _ (k : Machine) (log : List Event) (s : State) (h : At k log s) (group : 
       record {
         stands = record {
           sched = sched-same h.stands.sched there.table refl refl refl;
-          rest = rest_with_groups h.stands.rest c (λ _. refl) refl (same_parts s new refl refl refl) there;
+          rest = rest_with_groups h.stands.rest c (omega arith) (λ _. refl) refl (same_parts s new refl refl refl) there;
         };
         log = h.log;
       }
@@ -168,7 +169,7 @@ module _ (k : Machine) (log : List Event) (s : State) (h : At k log s) (i : ℕ)
       record {
         stands = record {
           sched = blocks (on_sched.stands_waiting_bits k.sched s i group calm h.stands.sched l ready);
-          rest = rest_with_groups h.stands.rest c (progress-kept s.tasks i u refl) refl same there;
+          rest = rest_with_groups h.stands.rest c (omega arith) (progress-kept s.tasks i u refl) refl same there;
         };
         log = h.log;
       }
@@ -451,7 +452,9 @@ module _ (k : Machine) (log : List Event) (s : State) (h : At k log s) (group ma
       subst (At (record k { progress = kept_by bits is k.progress; sched = v; clock = t; groups = g }) log) (sym set_is) (record {
         stands = record {
           sched = sched-same on shown.table refl refl refl;
-          rest = rest_with_groups before.rest c (progress-all_ready is kept) (kept-all_ready is kept) waits shown;
+          rest = rest_with_groups before.rest c (let e = released-all_ready is kept in omega (arith, e))
+              (progress-all_ready is kept)
+              (kept-all_ready is kept) waits shown;
         };
         log = kept_before.log ∙ sym (log-all_ready is kept);
       })

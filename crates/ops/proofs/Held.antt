@@ -1,6 +1,7 @@
 -- While the scheduler is held, and when it is released: what that makes of the states that the kernel represents.
 use Rattle.std.proofs.Common.{◌≡◌, ◌≢◌, ◌<◌, ◌+◌, ◌-◌, ℕ, zero, suc, true, false, List, Option, Some, None, refl, ap, sym, subst}
 use Rattle.std.proofs.Common.{◌∙◌, arith, length, get_or-set_same, ltb}
+use Rattle.std.proofs.Common.{◌≤◌}
 use Rattle.std.specs.Option.{is_some}
 use Rattle.std.proofs.lemmas.Bool.{eq-eqb, ne_eqb, lt-ltb}
 use Rattle.model.specs.declared.event.Event.{Event}
@@ -30,7 +31,7 @@ use Rattle.objects.specs.declared.lock.Lock.{Lock}
 use Rattle.objects.specs.Objects.{locked_by}
 use Rattle.groups.proofs.Kept as bits_kept
 use Rattle.machine.specs.declared.machine.Machine.{Machine}
-use Rattle.machine.specs.StandsFor.{StandsFor, At, Moves, progress_in}
+use Rattle.machine.specs.StandsFor.{StandsFor, At, Moves, progress_in, released_ticks}
 use Rattle.ops.specs.Can.{CanApply}
 use Rattle.machine.specs.Can.{Leaves, Runs}
 use Rattle.machine.proofs.Parts.{rest_unseen, rest_with_clock, same_parts, sched-same}
@@ -65,23 +66,25 @@ module _ (k : Machine) (log : List Event) (s : State) (h : At k log s) where
       }
 
   -- the clock, and how many ticks have come and are held
-  pub with_ticks : (t : Timeline) (elapsed held : ℕ) → clock.StandsFor t (record s { elapsed = elapsed; held_ticks = held })
+  pub with_ticks : (t : Timeline) (elapsed held : ℕ) → released_ticks s ≤ elapsed - held
+      → clock.StandsFor t (record s { elapsed = elapsed; held_ticks = held })
       → At (record k { clock = t }) log (record s { elapsed = elapsed; held_ticks = held })
-  with_ticks t elapsed held on =
+  with_ticks t elapsed held since on =
       let new : State = record s { elapsed = elapsed; held_ticks = held } in
       record {
         stands = record {
           sched = sched-same h.stands.sched on.table refl refl refl;
           rest =
-              rest_with_clock h.stands.rest on (λ _. refl) refl
+              rest_with_clock h.stands.rest on since (λ _. refl) refl
               (same_parts s new refl refl refl) (bits_kept.same_parts s new refl refl);
         };
         log = h.log;
       }
 
   -- A held tick is released: the state is as before it came.
-  pub released : (t : Timeline) → clock.StandsFor t (before_held s) → At (record k { clock = t }) log (before_held s)
-  released t on = with_ticks t (s.elapsed - 1) (s.held_ticks - 1) on
+  pub released : (t : Timeline) → 0 < s.held_ticks → clock.StandsFor t (before_held s)
+      → At (record k { clock = t }) log (before_held s)
+  released t some on = with_ticks t (s.elapsed - 1) (s.held_ticks - 1) (omega arith) on
 
 -- and when it comes now, it is applied
 pub applied_now : (new : Machine) (log : List Event) (s : State) → holds_ticks s ≡ false

@@ -1,6 +1,7 @@
 -- Task notifications: what a notify, and a wait for a notification, make of the states that the kernel represents.
 use Rattle.std.proofs.Common.{◌≡◌, ◌≢◌, ◌<◌, ℕ, true, false, eqb, Bool, List, [], length, Option, Some, None, refl, ap, sym, subst}
 use Rattle.std.proofs.Common.{◌∙◌}
+use Rattle.std.proofs.Common.{arith}
 use Rattle.std.specs.Prelude.{◌||◌}
 use Rattle.std.specs.Option.{is_some, option_and_then, option_eq}
 use Rattle.model.specs.declared.call.Phase.{Phase}
@@ -95,7 +96,7 @@ module _ (k : Machine) (s : State) (i : ℕ) (waits : waits_for_notification (st
         rw waits (record {
           stands = record {
             sched = on;
-            rest = rest_with_groups h.stands.rest awake (progress-ready s i) refl (same_ready i s free) there;
+            rest = rest_with_groups h.stands.rest awake (omega arith) (progress-ready s i) refl (same_ready i s free) there;
           };
           log = h.log;
         })
@@ -110,7 +111,8 @@ module _ (k : Machine) (s : State) (i : ℕ) (waits : waits_for_notification (st
         let priority = priority-kept s.tasks i (record (task_at s i) { status = Ready s.next_ticket }) refl task in
         rw waits (record {
           stands =
-              Placing task list (before_with_groups b on awake left locked there (progress-ready s i) priority refl refl refl);
+              Placing task list (before_with_groups b on awake left locked there (progress-ready s i) priority
+              (omega arith) refl refl refl);
           log = told;
         })
 
@@ -156,7 +158,7 @@ module _ (k : Machine) (log : List Event) (s : State) (h : At k log s) (i : ℕ)
       record {
         stands = record {
           sched = blocks (on_sched.stands_waiting_notification k.sched s i calm h.stands.sched l ready);
-          rest = rest_with_groups h.stands.rest c (progress-kept s.tasks i u refl) refl same there;
+          rest = rest_with_groups h.stands.rest c (omega arith) (progress-kept s.tasks i u refl) refl same there;
         };
         log = h.log;
       }

@@ -1,5 +1,6 @@
 -- What another priority of a task makes of the states that the kernel represents.
 use Rattle.std.proofs.Common.{◌≡◌, ◌<◌, ℕ, true, false, eqb, Option, Some, None, refl, ap, sym, subst, ◌∙◌, max, List}
+use Rattle.std.proofs.Common.{arith}
 use Rattle.model.specs.declared.event.Event.{Event}
 use Rattle.model.specs.declared.event.Misuse.{Misuse}
 use Rattle.model.specs.State.{State, Task, task_at, progress_at, call_at, object_at, with_task, for_one, no_task, with_object}
@@ -23,7 +24,7 @@ use Rattle.sched.specs.StandsFor as sched
 use Rattle.sched.specs.Schedule.{Schedule}
 use Rattle.groups.proofs.Kept as bits_kept
 use Rattle.machine.specs.declared.machine.Machine.{Machine}
-use Rattle.machine.specs.StandsFor.{At}
+use Rattle.machine.specs.StandsFor.{At, released_ticks}
 use Rattle.machine.specs.Can.{Agrees, Runs}
 use Rattle.ops.specs.Can.{CanDecide, Reranks}
 use Rattle.machine.proofs.Parts.{kept_of, rest_with_objects}
@@ -62,6 +63,13 @@ kept-set_priority s i priority = by_test (eqb (task_at s i).priority priority)
     (λ t.
     rw t (by_test (is_ready (with_task i (record (task_at s i) { priority = priority }) s) i) (λ u. rw u refl) (λ u. rw u refl)))
 
+released-set_priority : (s : State) (i priority : ℕ) → released_ticks (set_priority i priority s) ≡ released_ticks s
+unfolding set_priority to_back
+released-set_priority s i priority = by_test (eqb (task_at s i).priority priority)
+    (λ t. rw t refl)
+    (λ t.
+    rw t (by_test (is_ready (with_task i (record (task_at s i) { priority = priority }) s) i) (λ u. rw u refl) (λ u. rw u refl)))
+
 -- The scheduler has done its part.
 pub ranked_at : (k : Machine) (log : List Event) (s : State) → At k log s → (i priority : ℕ) (v : Schedule)
     → sched.StandsFor v (set_priority i priority s) → At (record k { sched = v }) log (set_priority i priority s)
@@ -74,8 +82,9 @@ ranked_at k log s h i priority v on =
           record {
             sched = on;
             rest =
-                rest_with_objects h.stands.rest c (progress-set_priority s i priority)
-                (kept-set_priority s i priority) left locked (bits_kept.same_set_priority i priority s);
+                rest_with_objects h.stands.rest c (let e = released-set_priority s i priority in omega (arith, e))
+                (progress-set_priority s i priority) (kept-set_priority s i priority) left locked
+                (bits_kept.same_set_priority i priority s);
           };
       log = h.log ∙ sym (log-set_priority s i priority);
     }

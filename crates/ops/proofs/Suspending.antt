@@ -114,7 +114,8 @@ module _ (k : Machine) (log : List Event) (s : State) (h : At k log s) (i : ℕ)
       let locked : AtLocked None (with_status i Suspended s) =
       record { awake = each-set no_task A s.tasks i u tt h.stands.rest.awake.awake; to_place = tt } in
       rw can (record {
-        stands = record { sched = on; rest = rest_with h.stands.rest awake (progress-kept s.tasks i u refl) refl left locked gone };
+        stands = record { sched = on;
+          rest = rest_with h.stands.rest awake (omega arith) (progress-kept s.tasks i u refl) refl left locked gone };
         log = h.log;
       })
 
@@ -264,7 +265,7 @@ module _ (k : Machine) (s : State) (i : ℕ) (t : can_resume (status_at s i) ≡
       (subst (λ (x : Progress). StandsFor (with_progress i x (record k { sched = v })) new)
       (sym (progress_is h.rest.progress)) (record {
         sched = on_new;
-        rest = rest_moved h.rest c refl i (resumed_task s i) l h.sched.table.few refl off (same_resume s i t) bits;
+        rest = rest_moved h.rest c (omega arith) refl i (resumed_task s i) l h.sched.table.few refl off (same_resume s i t) bits;
       }))
 
   -- the same while another is still to be placed

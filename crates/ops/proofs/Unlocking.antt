@@ -1,5 +1,6 @@
 -- A queue is unlocked, and the Awake tasks become Ready.
 use Rattle.std.proofs.Common.{◌≡◌, ◌≢◌, ℕ, true, false, List, [], ◌∷◌, ◌++◌, Option, Some, None, IsSome, refl, ap, sym, subst, ◌∙◌}
+use Rattle.std.proofs.Common.{arith}
 use Rattle.std.specs.List.{AllByRecursion}
 use Rattle.std.specs.Option.{option_and_then}
 use Rattle.model.specs.declared.call.WaitList.{WaitList}
@@ -32,7 +33,7 @@ use Rattle.machine.specs.declared.machine.Machine.{Machine}
 use Rattle.machine.specs.StandsFor.{StandsFor, At}
 use Rattle.machine.specs.Can.{AreThere, AreToWake}
 use Rattle.machine.proofs.Parts.{clock-same, rest_again, rest_with_objects, sched-same}
-use Rattle.machine.proofs.Waking.{kept-all_ready, progress-all_ready, log-all_ready}
+use Rattle.machine.proofs.Waking.{kept-all_ready, progress-all_ready, log-all_ready, released-all_ready}
 use Rattle.ops.proofs.Waits.{unready_awake, awake_unsuspended}
 
 -- ---- the Awake tasks can all become Ready
@@ -147,8 +148,8 @@ module _ (k : Machine) (log : List Event) (s : State) (h : At k log s) where
             record {
               sched = on;
               rest =
-                  rest_with_objects h.stands.rest awake (progress-all_ready is (opened s))
-                  (kept-all_ready is (opened s)) left locked bits;
+                  rest_with_objects h.stands.rest awake (let e = released-all_ready is (opened s) in omega (arith, e))
+                  (progress-all_ready is (opened s)) (kept-all_ready is (opened s)) left locked bits;
             };
         log = h.log ∙ sym (log-all_ready is (opened s));
       })

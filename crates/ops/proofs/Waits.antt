@@ -1,6 +1,7 @@
 -- Calls that wait: what a wake and each phase make of the states that the kernel represents.
 use Rattle.std.proofs.Common.{◌≡◌, ◌≢◌, ◌<◌, ℕ, Bool, true, false, List, [], ◌∷◌, length, Option, Some, None, refl, ap, sym, subst}
 use Rattle.std.proofs.Common.{◌∙◌}
+use Rattle.std.proofs.Common.{arith}
 use Rattle.std.specs.Prelude.{if◌then◌else◌}
 use Rattle.std.specs.List.{AllByRecursion}
 use Rattle.std.specs.Option.{is_some, option_map, option_and_then}
@@ -176,7 +177,8 @@ module _ (k : Machine) (s : State) (h : StandsFor k s) (list : WaitList) (i : �
       let locked = subst (AtLocked None) one (at_locked-wake_best None list s h.rest.awake) in
       let bits = subst (SameEventWaits s) one (bits_elsewhere.same_wake_best list s) in
       subst (At (record k { sched = v; clock = t; objects = q }) log) (sym one) (record {
-        stands = record { sched = on l; rest = rest_with_objects h.rest (awake l) (progress-ready s i) refl there locked bits };
+        stands = record { sched = on l;
+          rest = rest_with_objects h.rest (awake l) (omega arith) (progress-ready s i) refl there locked bits };
         log = same;
       })
 
@@ -250,7 +252,7 @@ module _ (k : Machine) (log : List Event) (s : State) (h : At k log s) (list : W
               (ap (λ (o : Option ℕ). option_map (λ n. record { priority = (task_at s i).priority; ticket = n }) o)
               (awake_unready (status_at s i)))
               refl refl table (awake_resumes (status_at s i));
-          rest = rest_with_objects h.stands.rest c (progress-kept s.tasks i t refl) refl there locked bits;
+          rest = rest_with_objects h.stands.rest c (omega arith) (progress-kept s.tasks i t refl) refl there locked bits;
         };
         log = h.log;
       }
@@ -297,7 +299,7 @@ stored_at k log s h o x q there =
       stands = record {
         sched = sched-same h.stands.sched table refl refl refl;
         rest =
-            rest_with_objects h.stands.rest c (λ _. refl) refl there
+            rest_with_objects h.stands.rest c (omega arith) (λ _. refl) refl there
             (at_locked-stored None o x s h.stands.rest.awake) (bits_kept.same_object o x s);
       };
       log = h.log;

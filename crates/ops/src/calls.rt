@@ -9,7 +9,7 @@ ghost use Rattle.model.specs.Objects as definitions;
 ghost use Rattle.model.specs.declared.call.Phase.TheVariants as phase;
 ghost use Rattle.model.specs.Application.{Application};
 ghost use Rattle.model.specs.Calls.{try, lock, decide, leave_call, await};
-ghost use Rattle.model.specs.Step.{act_by_value};
+ghost use Rattle.model.specs.Step.{act_by_value, call_with_number};
 ghost use Rattle.model.specs.Values.{with_number};
 ghost use Rattle.machine.specs.StandsFor.{StandsFor, At, AtAny, Does, DoesAny, Moves, progress_in};
 ghost use Rattle.ops.specs.InCall.{IsSilent, Remains};
@@ -251,7 +251,63 @@ pub fn go_on_waiting<L: Log>(
     }
 }
 
-/// The same of a call whose item is a value. If that is missing as the call begins, the check fails.
+/// A call whose item is a value, which isn't missing, is done if it is possible; it fails if its deadline has come; otherwise it
+/// decides next.
+#[inline(always)]
+fn try_by_value<L: Log>(
+    machine: &mut Machine,
+    app: &App,
+    task: TaskId,
+    object: ObjectId,
+    access: Access<Value>,
+    log: &mut L,
+)
+    requires room { 2 ≤ (L.logged log.old).room }
+    requires can { (variables : List ℕ) (answer : Option ℕ)
+        → CanTry machine.old task object (with_number variables answer access) }
+    ensures { Does 2 machine.old (L.logged log.old) machine.new (L.logged log.new)
+        (λ s. try app.now task object (call_with_number s task access) s) }
+{
+    let access = call_with_number(machine, task, access);
+    try_call(machine, app, task, object, access, log);
+}
+
+/// The next phase of a call whose item is a value, which isn't missing if the call begins.
+// The number is found in an arm, so that the compiler goes from the access to what that does at once.
+#[inline(always)]
+fn go_on_by_number<L: Log>(
+    machine: &mut Machine,
+    app: &App,
+    task: TaskId,
+    object: ObjectId,
+    access: Access<Value>,
+    ticks: Option<u32>,
+    log: &mut L,
+)
+    requires room { 2 ≤ (L.logged log.old).room }
+    requires can { (variables : List ℕ) (answer : Option ℕ)
+        → CanGoOn machine.old task object (with_number variables answer access) ticks
+        (progress_in machine.old.progress task).call.phase }
+    ensures { DoesAny 2 machine.old (L.logged log.old) machine.new (L.logged log.new)
+        (λ s. await app.now task object (call_with_number s task access) ticks (call_at s task).phase s) }
+{
+    match machine.progress(task).call.phase {
+        Phase::Start => {
+            machine.set_deadline(task, ticks);
+            try_by_value(machine, app, task, object, access, log);
+        }
+        Phase::Try => try_by_value(machine, app, task, object, access, log),
+        Phase::Decide => {
+            let access = call_with_number(machine, task, access);
+            decide(machine, task, object, access);
+        }
+        Phase::Place => place(machine, task),
+        Phase::Unlock => unlock(machine, task),
+        Phase::Leave => leave_call(machine, task, log),
+    }
+}
+
+/// The same. If the item is missing as the call begins, the check fails.
 #[inline(always)]
 pub fn go_on_by_value<L: Log>(
     machine: &mut Machine,
@@ -273,6 +329,5 @@ pub fn go_on_by_value<L: Log>(
         fail_check(machine, task);
         return;
     }
-    let access = call_with_number(machine, task, access);
-    go_on_waiting(machine, app, task, object, access, ticks, log);
+    go_on_by_number(machine, app, task, object, access, ticks, log);
 }

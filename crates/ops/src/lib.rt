@@ -13,6 +13,7 @@ pub mod mutexes;
 pub mod notifications;
 pub mod queues;
 pub mod script;
+pub mod sources;
 pub mod suspension;
 pub mod time;
 pub mod values;

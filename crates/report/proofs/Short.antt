@@ -10,7 +10,9 @@ use Rattle.model.specs.declared.op.Op.TheVariants.{Work, Delay, DelayUntil, Yiel
 use Rattle.model.specs.declared.op.Op.TheVariants.{Break, Stamp, Since, Await, Do, GiveMutex, MessagesWaiting, SpacesAvailable}
 use Rattle.model.specs.declared.op.Op.TheVariants.{SetBits, ClearBits, GetBits, WaitBits, Suspend, Resume, SuspendAll, ResumeAll}
 use Rattle.model.specs.declared.op.Op.TheVariants.{Notify, AwaitNotification, ClearNotification, EnterCritical, ExitCritical, Value}
-use Rattle.model.specs.declared.op.Op.TheVariants.{NextCommand, Obey}
+use Rattle.model.specs.declared.op.Op.TheVariants.{NextCommand, Obey, Source}
+use Rattle.model.specs.declared.source.SourceOp.{SourceOp}
+use Rattle.model.specs.declared.source.SourceOp.TheVariants.{Arm, Disarm, Raise, Cancel}
 use Rattle.model.specs.declared.op.Access.{Access}
 use Rattle.model.specs.declared.op.Access.TheVariants.{Send, SendFront, Overwrite, Receive, Peek, Take, Give, Lock}
 use Rattle.model.specs.declared.notification.NotificationWait.{NotificationWait}
@@ -26,7 +28,7 @@ use Rattle.model.specs.declared.op.IsrOp.TheVariants as isr_op
 use Rattle.model.specs.Application.{Application, Definition, op_at, script_of}
 use Rattle.model.specs.Scripts.{IsDefinition, IsWellFormed, most_ops}
 use Rattle.model.specs.Words.{word_of, word_of_access, word_of_arithmetic, word_of_isr, word_of_notification_wait}
-use Rattle.model.specs.Words.{word_of_notification_clear, word_of_value_op}
+use Rattle.model.specs.Words.{word_of_notification_clear, word_of_source_op, word_of_value_op}
 use Rattle.report.specs.Text.{word_at}
 
 access_short : {Item : Type 0} (a : Access Item) → length (word_of_access a) ≤ 18
@@ -62,6 +64,12 @@ value_short (Load x) = lit≤ tt
 value_short (Store x v) = lit≤ tt
 value_short (Compute a v) = arithmetic_short a
 
+source_short : (op : SourceOp) → length (word_of_source_op op) ≤ 18
+source_short Arm = lit≤ tt
+source_short Disarm = lit≤ tt
+source_short (Raise ticks) = lit≤ tt
+source_short Cancel = lit≤ tt
+
 -- The first word of an op has at most eighteen letters.
 word_short : (op : Op) → length (word_of op) ≤ 18
 word_short (Work n) = lit≤ tt
@@ -79,6 +87,7 @@ word_short EndIf = lit≤ tt
 word_short Break = lit≤ tt
 word_short Stamp = lit≤ tt
 word_short Since = lit≤ tt
+word_short (Source h op) = source_short op
 word_short (Await o a ticks) = access_short a
 word_short (Do o a) = access_short a
 word_short (GiveMutex o) = lit≤ tt
@@ -137,4 +146,5 @@ isr_word_short (isr_op.Expect c) = lit≤ tt
 isr_word_short (isr_op.If c) = lit≤ tt
 isr_word_short isr_op.Else = lit≤ tt
 isr_word_short isr_op.EndIf = lit≤ tt
+isr_word_short (isr_op.Source h op) = source_short op
 isr_word_short (isr_op.Value v) = value_short v

@@ -82,7 +82,7 @@ two_unlocks =
     record (app_of
     (a_task (codes "a") (Do 0 Give ∷ Await 0 Take (Some 0) ∷ Await 1 Lock None ∷ GiveMutex 1 ∷ GiveMutex 1 ∷ []) ∷ [])) {
       objects = kind.Semaphore 1 0 ∷ kind.Mutex ∷ [];
-      handlers = record { name = codes "h"; ops = isr_op.Do 0 Give ∷ [] } ∷ [];
+      handlers = record { name = codes "h"; ops = isr_op.Do 0 Give ∷ []; armed = true; apart = 0 } ∷ [];
     }
 
 -- the row of the handler before step 0
@@ -109,7 +109,12 @@ each_hold = record (app_of (a_task (codes "a") (
     SetBits 0 5 ∷ WaitBits 0 (record { mask = 4; all = false; clear = true }) None ∷ ClearBits 0 1 ∷ GetBits 0
     ∷ Resume 0 ∷ Suspend 0 ∷ SuspendAll ∷ ResumeAll ∷ []) ∷ [])) {
       group_count = 1;
-      handlers = record { name = codes "h"; ops = isr_op.GetBits 0 ∷ isr_op.Resume 0 ∷ command false ∷ command true ∷ [] } ∷ [];
+      handlers = record {
+        name = codes "h";
+        ops = isr_op.GetBits 0 ∷ isr_op.Resume 0 ∷ command false ∷ command true ∷ [];
+        armed = true;
+        apart = 0;
+      } ∷ [];
     }
 
 -- one event of each of their ops; no run reports these events
@@ -133,7 +138,7 @@ each_notification = record (app_of (a_task (codes "a") (
     Notify 0 notify.Increment ∷ AwaitNotification (awaited.Take true) None
     ∷ AwaitNotification (awaited.Wait (record { entry = 0; exit = 1 })) (Some 5) ∷ ClearNotification cleared.Pending
     ∷ ClearNotification (cleared.Bits 1) ∷ []) ∷ [])) {
-      handlers = record { name = codes "h"; ops = isr_op.Notify 0 notify.Nothing ∷ [] } ∷ [];
+      handlers = record { name = codes "h"; ops = isr_op.Notify 0 notify.Nothing ∷ []; armed = true; apart = 0 } ∷ [];
     }
 
 -- one event of each of their ops; no run reports these events
@@ -149,7 +154,7 @@ each_notification_run = record {
 
 -- a handler that sends an item to the front of a queue
 abbrev pub a_handler : Handler
-a_handler = record { name = codes "ABCDEFGHIJKLMNOP"; ops = isr_op.Do 0 (SendFront (Number 1)) ∷ [] }
+a_handler = record { name = codes "ABCDEFGHIJKLMNOP"; ops = isr_op.Do 0 (SendFront (Number 1)) ∷ []; armed = true; apart = 0 }
 
 -- one event of each form, with the largest numbers; no run reports these events
 abbrev pub each_form : Application
@@ -184,7 +189,7 @@ longest_row reached = Row 1000000 (last_injection ∷ last_injection ∷ last_in
 abbrev pub two_marks : Application
 two_marks =
     record (app_of (a_task (codes "a") (Mark (Number 1) ∷ []) ∷ []))
-    { handlers = record { name = codes "h"; ops = isr_op.Mark (Number 2) ∷ [] } ∷ [] }
+    { handlers = record { name = codes "h"; ops = isr_op.Mark (Number 2) ∷ []; armed = true; apart = 0 } ∷ [] }
 
 -- the events of the task's step
 abbrev pub one_mark : List Event

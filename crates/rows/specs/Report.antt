@@ -1,8 +1,7 @@
 -- The rows of a campaign, as they are kept.
-use Rattle.std.specs.Prelude.{◌≡◌, ℕ, ◌+◌, ◌≤◌, List, [], ◌++◌, length, map, take, drop, slice_get, nat_lt, Option, Some, None}
+use Rattle.std.specs.Prelude.{◌≡◌, ℕ, ◌+◌, ◌≤◌, List, [], ◌++◌, length, map, take, drop, slice_get, Option, Some, None}
 use Rattle.std.specs.List.{AllByRecursion, flat_map}
 use Rattle.machine.specs.Logged.{all_of}
-use Rattle.model.specs.Points.{first_step}
 use Rattle.model.specs.Run.{Run}
 use Rattle.model.specs.Campaign.{Row, totals_of}
 use Rattle.model.specs.Scripts.{most_points}
@@ -17,7 +16,7 @@ use Rattle.rows.specs.Links.{Store, told_at, AreLegs, IsLink}
 abbrev pub row_of : (base : Run) → Store → KeptRow → Row
 row_of base store kept = record {
   point = kept.point;
-  reached = nat_lt (first_step kept.point) base.steps;
+  reached = kept.reached;
   run = record {
     events = take kept.shared base.events ++ told_at base.events store kept.told;
     steps = kept.steps;

@@ -120,6 +120,7 @@ fn push(rows: &mut Vec<KeptRow>, row: KeptRow) -> Result<(), Memory>
     // Taken apart and made again, since the check proves no push of the whole.
     let KeptRow {
         point,
+        reached,
         shared,
         told,
         steps,
@@ -128,6 +129,7 @@ fn push(rows: &mut Vec<KeptRow>, row: KeptRow) -> Result<(), Memory>
     } = row;
     let row = KeptRow {
         point,
+        reached,
         shared,
         told,
         steps,

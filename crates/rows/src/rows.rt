@@ -5,11 +5,12 @@ use machine::Trail;
 use model::{End, Point};
 
 /// A row as it is kept: its events begin with this many of the base run's, and go on with those
-/// that follow a link. Its point is reached if the base run gets beyond the step of the first
-/// injection.
+/// that follow a link.
 #[derive(Clone, Copy)]
 pub struct KeptRow {
     pub point: Point,
+    /// Whether the base run gets beyond the step of the point's first injection, and that can come there.
+    pub reached: bool,
     pub shared: usize,
     pub told: Link,
     pub steps: u32,

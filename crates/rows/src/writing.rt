@@ -1,10 +1,9 @@
 //! The text of a campaign's report, to a sink.
-ghost use Rattle.std.specs.Prelude.{◌≡◌, ◌≤◌, ◌<◌, ◌+◌, false, [], ◌∷◌, length, nat_lt, slice_get, slice_range, Some, IfSome, OnOk};
+ghost use Rattle.std.specs.Prelude.{◌≡◌, ◌≤◌, ◌<◌, ◌+◌, false, [], ◌∷◌, length, slice_get, slice_range, Some, IfSome, OnOk};
 ghost use Rattle.std.specs.List.{flat_map};
 ghost use Rattle.std.specs.Result.{is_err};
 ghost use Rattle.byte_io.specs.Bytes.{Adds, Writes};
 ghost use Rattle.machine.specs.Logged.{all_of};
-ghost use Rattle.model.specs.Points.{first_step};
 ghost use Rattle.model.specs.Scripts.{most_points};
 ghost use Rattle.model.specs.Campaign.{totals_of};
 ghost use Rattle.report.specs.Text.{event_text, row_text, total_text};
@@ -44,15 +43,14 @@ const MOST_TEXT: usize = 1 << 24;
 const LEAST_SHARED: usize = 512;
 
 // What the head line of a row begins with.
-fn title_of(number: usize, row: &KeptRow, base: &Run) -> Title
+fn title_of(number: usize, row: &KeptRow) -> Title
     requires { number ≤ most_points }
-    ensures { result ≡ title.Row number row.now.point (nat_lt (first_step row.now.point) base.now.steps) }
+    ensures { result ≡ title.Row number row.now.point row.now.reached }
 {
-    let reached = row.point.first_step() < base.steps;
     Title::Row {
         number: number as u32,
         point: row.point,
-        reached,
+        reached: row.reached,
     }
 }
 
@@ -183,7 +181,7 @@ pub(crate) fn add_row<W: Sink>(
         (row_text text.old.app number (row_of base.now (store_of part.now) row.now)) }
     ensures failed { W.has_failed writer.new ≡ is_err result }
 {
-    let title = title_of(number, row, base);
+    let title = title_of(number, row);
     text.begin_row(writer, title, ending_of(row), events, row.shared)?;
     add_told(writer, text, row.told, events, part, stretches)
 }
@@ -203,7 +201,7 @@ fn add_row_head<W: Sink>(
         (row_head text.old.app number (row_of base.now store row.now)) }
     ensures failed { W.has_failed writer.new ≡ is_err result }
 {
-    text.add_head(writer, title_of(number, row, base), ending_of(row))
+    text.add_head(writer, title_of(number, row), ending_of(row))
 }
 
 // Adds a row of this number to a report. Its text under the number 0 may be known.

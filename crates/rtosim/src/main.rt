@@ -13,23 +13,23 @@ use std::num::NonZeroUsize;
 use std::process::ExitCode;
 use std::thread::{Threads, available_parallelism};
 
-// This many bytes of stack a campaign takes at most, and what explores less, and some more.
-const CAMPAIGN_STACK: usize = 614_400;
+// This many bytes of stack a campaign takes at most, and any other job less, and some more.
+const LARGE_STACK: usize = 880_640;
 
-// And any other job.
+// And a run that nothing else is asked of.
 const STACK: usize = 323_584;
 
-// Takes the stack of a campaign or of what explores, and gives it back: it stays the program's. So
+// Takes the stack of a campaign, and gives it back: it stays the program's. So
 // if a limit on all memory leaves no room for it, the program ends before it has done anything, and
 // otherwise the stack need not grow later. Returns 0 or 1, by what lies at `place`.
 #[inline(never)]
-fn take_campaign_stack(place: usize) -> u8 {
-    let mut stack = [0_u8; CAMPAIGN_STACK];
-    stack[place % CAMPAIGN_STACK] = 1;
-    stack[place / 2 % CAMPAIGN_STACK]
+fn take_large_stack(place: usize) -> u8 {
+    let mut stack = [0_u8; LARGE_STACK];
+    stack[place % LARGE_STACK] = 1;
+    stack[place / 2 % LARGE_STACK]
 }
 
-// The same of any other job, which then starts sooner.
+// The same of a run that nothing else is asked of, which then starts sooner.
 #[inline(never)]
 fn take_stack(place: usize) -> u8 {
     let mut stack = [0_u8; STACK];
@@ -41,8 +41,8 @@ fn take_stack(place: usize) -> u8 {
 #[inline(never)]
 fn take_stack_for(words: &[String]) -> u8 {
     for word in words {
-        if matches!(word.as_str(), "campaign" | "explore") {
-            return take_campaign_stack(words.len());
+        if word.starts_with("--") || matches!(word.as_str(), "campaign" | "explore") {
+            return take_large_stack(words.len());
         }
     }
     take_stack(words.len())

@@ -77,11 +77,12 @@ module _ (app : Application) (entries : Entries)
       (sym (length-map entries.tasks (with_script entries)))
 
   pub has_entries : app.group_count ≡ length entries.groups → length app.variables ≡ length entries.variables
-      → HasEntries app entries
-  has_entries groups variables = record {
+      → length app.handlers ≡ length entries.handlers → HasEntries app entries
+  has_entries groups variables handlers = record {
     objects = objects;
     groups = groups;
     variables = variables;
+    handlers = handlers;
     tasks = ap length tasks_of_file ∙ length-map entries.tasks (with_script entries);
     daemon = ap is_some daemon ∙ same_presence (length entries.tasks) entries.daemon;
   }

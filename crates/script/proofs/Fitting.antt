@@ -15,12 +15,12 @@ use Rattle.model.specs.declared.answer.AnswerCondition.TheVariants.{Is, IsNot, B
 use Rattle.model.specs.declared.value.Value.{Value}
 use Rattle.model.specs.declared.value.Value.TheVariants as value
 use Rattle.model.specs.Application.{Application}
-use Rattle.model.specs.Scripts.{fits, fits_object, is_of_semaphore, is_of_mutex, has_group, has_task, has_variable, knows_value}
-use Rattle.model.specs.Scripts.{knows_condition}
+use Rattle.model.specs.Scripts.{fits, fits_object, is_of_semaphore, is_of_mutex, has_group, has_task, has_variable, has_handler}
+use Rattle.model.specs.Scripts.{knows_value, knows_condition}
 use Rattle.grammar.specs.declared.object_sort.ObjectSort.{ObjectSort}
 use Rattle.grammar.specs.declared.object_sort.ObjectSort.TheVariants.{Queue, Semaphore, Mutex}
-use Rattle.grammar.specs.Grammar.{Word, NameSort, OfObject, OfGroup, OfTask, OfVariable}
-use Rattle.script.specs.Entries.{ObjectEntry, GroupEntry, VariableEntry, Raw, DaemonEntry, Entries, HasEntries}
+use Rattle.grammar.specs.Grammar.{Word, NameSort, OfObject, OfGroup, OfTask, OfVariable, OfHandler}
+use Rattle.script.specs.Entries.{ObjectEntry, GroupEntry, VariableEntry, RawIsr, Raw, DaemonEntry, Entries, HasEntries}
 use Rattle.script.specs.Entries.{command_queue}
 use Rattle.grammar.specs.Finding.{is_of_sort}
 use Rattle.script.specs.Finding.{is_called, among}
@@ -41,6 +41,7 @@ IsAt entries (OfObject sort) n = IsObject entries.objects sort n
 IsAt entries OfGroup n = nat_lt n (length entries.groups) ≡ true
 IsAt entries OfTask n = nat_lt n (length entries.tasks) ≡ true
 IsAt entries OfVariable n = nat_lt n (length entries.variables) ≡ true
+IsAt entries OfHandler n = nat_lt n (length entries.handlers) ≡ true
 
 found_from : (i : ℕ) (sort : ObjectSort) (w : Word) (objects : List ObjectEntry) (n : ℕ)
     → position_from (is_called sort w) i objects ≡ Some n
@@ -85,6 +86,11 @@ found_at entries OfVariable w n e =
     let below = below_from 0 w names n e in
     let count : length names ≡ length entries.variables = length-map entries.variables (λ (v : VariableEntry). v.name) in
     lt-ltb n (length entries.variables) (omega arith)
+found_at entries OfHandler w n e =
+    let names = map (λ (h : RawIsr). h.name) entries.handlers in
+    let below = below_from 0 w names n e in
+    let count : length names ≡ length entries.handlers = length-map entries.handlers (λ (h : RawIsr). h.name) in
+    lt-ltb n (length entries.handlers) (omega arith)
 
 -- ---- which calls it allows
 
@@ -157,6 +163,9 @@ module _ (app : Application) (entries : Entries) (has : HasEntries app entries) 
 
   pub at_variable : (n : ℕ) → IsAt entries OfVariable n → has_variable app n ≡ true
   at_variable n at = rw has.variables at
+
+  pub at_handler : (n : ℕ) → IsAt entries OfHandler n → has_handler app n ≡ true
+  at_handler n at = rw has.handlers at
 
   pub at_value : (v : Value) → AtValue (IsAt entries) v → knows_value app v ≡ true
   at_value (value.Number n) at = refl

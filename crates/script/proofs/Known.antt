@@ -1,5 +1,5 @@
 -- Every op that is taken, of a script or of a handler, speaks of what there is.
-use Rattle.std.proofs.Common.{◌≡◌, ◌+◌, ◌≤◌, ℕ, Bool, true, false, List, [], ◌∷◌, ◌++◌, length, map, drop, Option, Some, None}
+use Rattle.std.proofs.Common.{◌≡◌, ◌+◌, ℕ, Bool, true, false, List, [], ◌∷◌, ◌++◌, map, drop, Option, Some, None}
 use Rattle.std.proofs.Common.{refl}
 use Rattle.std.specs.Prelude.{◌&&◌, not, is_none}
 use Rattle.std.specs.List.{AllByRecursion, cons_option}
@@ -14,16 +14,17 @@ use Rattle.model.specs.declared.op.IsrOp.TheVariants as isr
 use Rattle.model.specs.declared.notification.NotifyAction.{NotifyAction}
 use Rattle.model.specs.declared.value.Value.{Value}
 use Rattle.model.specs.declared.value.ValueOp.{ValueOp}
-use Rattle.model.specs.Application.{Application, Handler}
+use Rattle.model.specs.declared.source.SourceOp.{SourceOp}
+use Rattle.model.specs.Application.{Application}
 use Rattle.model.specs.Blocks.{blocks_past, edge_of, ending, ends_loop, is_innermost, is_loop, with_ends}
-use Rattle.model.specs.Scripts.{is_in_range, knows, knows_isr, knows_value, knows_values, KnowsAll, IsHandler, most_name_bytes}
-use Rattle.model.specs.Scripts.{most_handler_ops}
+use Rattle.model.specs.Scripts.{has_handler, is_in_range, knows, knows_isr, knows_value, knows_values, KnowsAll, IsHandler}
 use Rattle.model.proofs.Sorting.{by_test}
 use Rattle.grammar.specs.declared.object_sort.ObjectSort.TheVariants.{Queue, Semaphore, Mutex}
 use Rattle.script.specs.declared.place.Place.{Place}
 use Rattle.script.specs.Arrays.{each_fault}
 use Rattle.grammar.specs.Grammar.{Word, Form, forms, basic_forms, block_forms, queue_forms, semaphore_forms, group_forms}
-use Rattle.grammar.specs.Grammar.{ActionValue, Done, notification_forms, suspension_forms, value_forms, given, CommandForm}
+use Rattle.grammar.specs.Grammar.{ActionValue, Done, notification_forms, suspension_forms, source_forms, value_forms, given}
+use Rattle.grammar.specs.Grammar.{CommandForm}
 use Rattle.grammar.specs.Grammar.{isr_call_forms, isr_forms, read_by}
 use Rattle.grammar.specs.Grammar.{if_in_range, OfTask}
 use Rattle.grammar.specs.Grammar.{is_isr_in_range, if_isr_in_range, op_of, isr_op_of, words_of}
@@ -31,10 +32,11 @@ use Rattle.script.specs.Entries.{RawIsr, Raw, Entries, HasEntries}
 use Rattle.script.specs.Finding.{among}
 use Rattle.script.specs.Ops.{Ops, task_ops, handler_ops, is_allowed, is_isr_allowed, is_command, op_in, blocks_with, op_elements}
 use Rattle.script.specs.Ops.{op_fault, script_fault, ops_named, handler_scripts, task_scripts, scripts_fault, handler_ops_fault}
-use Rattle.script.specs.Ops.{with_script, with_isr_ops}
+use Rattle.script.specs.Ops.{IsLimited, with_script, with_isr_ops}
 use Rattle.script.proofs.Checks.{none_fails}
 use Rattle.grammar.proofs.Forms.{Makes, action_makes, read_by_holds}
-use Rattle.script.proofs.Fitting.{IsAt, found_at, at_fits, allowed_fits, at_group, at_task, at_variable, at_value, at_condition}
+use Rattle.script.proofs.Fitting.{IsAt, found_at, at_fits, allowed_fits, at_group, at_task, at_variable, at_handler, at_value}
+use Rattle.script.proofs.Fitting.{at_condition}
 use Rattle.script.proofs.Fitting.{has_daemon}
 use Rattle.script.proofs.Scripts.{taken_stands, handler_nests}
 
@@ -117,6 +119,21 @@ module _ (app : Application) (entries : Entries) (has : HasEntries app entries) 
               ),
             ),
           ),
+        ),
+      ),
+    )
+
+  -- What holds of each op on a handler that is there holds of those that are made.
+  module _ {O : Type 0} (made : ℕ → SourceOp → O) (Holds : O → Type 0)
+      (known : (handler : ℕ) (what : SourceOp) → has_handler app handler ≡ true → Holds (made handler what)) where
+    source_forms_make : AllByRecursion (λ (form : Word × Form O). Makes Holds (IsAt entries) form.1) (source_forms made)
+    source_forms_make = (
+      (λ h at. known h _ (at_handler app entries has h at)),
+      (
+        (λ h at. known h _ (at_handler app entries has h at)),
+        (
+          (λ h at ticks. known h _ (at_handler app entries has h at)),
+          ((λ h at. known h _ (at_handler app entries has h at)), tt),
         ),
       ),
     )
@@ -221,28 +238,32 @@ module _ (app : Application) (entries : Entries) (has : HasEntries app entries) 
   value_forms_known : AllKnown (value_forms op.Value)
   value_forms_known = value_forms_make op.Value IsKnown (λ values known a. known)
 
+  source_forms_known : AllKnown (source_forms op.Source)
+  source_forms_known = source_forms_make op.Source IsKnown (λ handler what known a. known)
+
   both_known : (fs gs : List (Word × Form Op)) → AllKnown fs → AllKnown gs → AllKnown (fs ++ gs)
   both_known fs gs known others = both (λ (form : Word × Form Op). Makes IsKnown (IsAt entries) form.1) fs gs known others
 
   forms_known : AllKnown forms
   forms_known =
-      let values = value_forms op.Value in
-      let from_suspension = both_known suspension_forms values suspension_forms_known value_forms_known in
+      let last = source_forms op.Source ++ value_forms op.Value in
+      let from_sources = both_known (source_forms op.Source) (value_forms op.Value) source_forms_known value_forms_known in
+      let from_suspension = both_known suspension_forms last suspension_forms_known from_sources in
       let from_notifications =
-      both_known notification_forms (suspension_forms ++ values) notification_forms_known from_suspension in
+      both_known notification_forms (suspension_forms ++ last) notification_forms_known from_suspension in
       let from_groups =
-      both_known group_forms (notification_forms ++ suspension_forms ++ values) group_forms_known from_notifications in
+      both_known group_forms (notification_forms ++ suspension_forms ++ last) group_forms_known from_notifications in
       let from_semaphores =
-      both_known semaphore_forms (group_forms ++ notification_forms ++ suspension_forms ++ values)
+      both_known semaphore_forms (group_forms ++ notification_forms ++ suspension_forms ++ last)
       semaphore_forms_known from_groups in
       let from_queues =
-      both_known queue_forms (semaphore_forms ++ group_forms ++ notification_forms ++ suspension_forms ++ values)
+      both_known queue_forms (semaphore_forms ++ group_forms ++ notification_forms ++ suspension_forms ++ last)
       queue_forms_known from_semaphores in
       let from_blocks =
-      both_known block_forms (queue_forms ++ semaphore_forms ++ group_forms ++ notification_forms ++ suspension_forms ++ values)
+      both_known block_forms (queue_forms ++ semaphore_forms ++ group_forms ++ notification_forms ++ suspension_forms ++ last)
       block_forms_known from_queues in
       both_known basic_forms
-      (block_forms ++ queue_forms ++ semaphore_forms ++ group_forms ++ notification_forms ++ suspension_forms ++ values)
+      (block_forms ++ queue_forms ++ semaphore_forms ++ group_forms ++ notification_forms ++ suspension_forms ++ last)
       basic_forms_known from_blocks
 
   abbrev AreKnown : Option Op → Type 0
@@ -342,8 +363,12 @@ module _ (app : Application) (entries : Entries) (has : HasEntries app entries) 
 
   isr_forms_known : AllIsrKnown isr_forms
   isr_forms_known =
-      both (λ (form : Word × Form IsrOp). Makes IsIsrKnown (IsAt entries) form.1) isr_call_forms (value_forms isr.Value)
-      isr_call_forms_known (value_forms_make isr.Value IsIsrKnown (λ values known r a s. rw (known, r) refl))
+      let Made : Word × Form IsrOp → Type 0 = λ (form : Word × Form IsrOp). Makes IsIsrKnown (IsAt entries) form.1 in
+      let from_sources =
+      both Made (source_forms isr.Source) (value_forms isr.Value)
+      (source_forms_make isr.Source IsIsrKnown (λ handler what known r a s. rw (known, r) refl))
+      (value_forms_make isr.Value IsIsrKnown (λ values known r a s. rw (known, r) refl)) in
+      both Made isr_call_forms (source_forms isr.Source ++ value_forms isr.Value) isr_call_forms_known from_sources
 
   abbrev AreIsrKnown : Option IsrOp → Type 0
   AreIsrKnown = Known handler_ops entries (λ (op : IsrOp). knows_isr app op ≡ true)
@@ -359,9 +384,7 @@ module _ (app : Application) (entries : Entries) (has : HasEntries app entries) 
       isr_range_known (read_by (among entries) isr_forms w ws) holds
 
   handlers_known : (i : ℕ) (hs : List RawIsr) → each_fault (handler_scripts entries) tt i (map (λ (h : RawIsr). h.ops) hs) ≡ None
-      → AllByRecursion (λ (h : Handler). (length h.name ≤ most_name_bytes) × (length h.ops ≤ most_handler_ops))
-      (map (with_isr_ops entries) hs)
-      → AllByRecursion (IsHandler app) (map (with_isr_ops entries) hs)
+      → AllByRecursion IsLimited (map (with_isr_ops entries) hs) → AllByRecursion (IsHandler app) (map (with_isr_ops entries) hs)
   handlers_known i [] none formed = tt
   handlers_known i (h ∷ hs) none formed =
       let elements = handler_scripts entries in
@@ -369,6 +392,7 @@ module _ (app : Application) (entries : Entries) (has : HasEntries app entries) 
         record {
           name = formed.0.0;
           few = formed.0.1;
+          near = formed.0.2;
           nests = handler_nests entries (elements.at i) h.ops here.0;
           known =
               script_known handler_ops entries (λ (op : IsrOp). knows_isr app op ≡ true) isr_op_known (elements.at i) h.ops here.0;
@@ -377,8 +401,7 @@ module _ (app : Application) (entries : Entries) (has : HasEntries app entries) 
       )
 
   pub known_handlers : handler_ops_fault entries ≡ None
-      → AllByRecursion (λ (h : Handler). (length h.name ≤ most_name_bytes) × (length h.ops ≤ most_handler_ops))
-      (map (with_isr_ops entries) entries.handlers)
+      → AllByRecursion IsLimited (map (with_isr_ops entries) entries.handlers)
       → AllByRecursion (IsHandler app) (map (with_isr_ops entries) entries.handlers)
   unfolding handler_ops_fault
   known_handlers none formed = handlers_known 0 entries.handlers none formed

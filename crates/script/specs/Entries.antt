@@ -28,6 +28,8 @@ pub record VariableEntry : Type 0 where
 pub record RawIsr : Type 0 where
   pub name : List ℕ
   pub ops : List Data
+  pub armed : Bool
+  pub apart : ℕ
 
 pub record Raw : Type 0 where
   pub name : List ℕ
@@ -61,7 +63,7 @@ abbrev pub variable_view : NamedVariable → VariableEntry
 variable_view v = record { name = v.name.now; initial = v.initial }
 
 abbrev pub isr_view : RawHandler → RawIsr
-isr_view h = record { name = h.name.now; ops = map view h.ops.now }
+isr_view h = record { name = h.name.now; ops = map view h.ops.now; armed = h.armed; apart = h.apart }
 
 abbrev pub raw_view : RawTask → Raw
 raw_view t = record { name = t.name.now; priority = t.priority; endless = t.endless; script = map view t.script.now }
@@ -114,11 +116,12 @@ all_objects entries = map (λ (o : ObjectEntry). o.kind) entries.objects ++ comm
 abbrev pub daemon_of : Entries → Option ℕ
 daemon_of entries = option_map (λ (d : DaemonEntry). length entries.tasks) entries.daemon
 
--- The application has these objects, this many event groups, this many variables, this many tasks of the file, and a daemon if
--- these have one.
+-- The application has these objects, this many event groups, this many variables, this many handlers, this many tasks of the
+-- file, and a daemon if these have one.
 pub record HasEntries (app : Application) (entries : Entries) : Type 0 where
   pub objects : app.objects ≡ all_objects entries
   pub groups : app.group_count ≡ length entries.groups
   pub variables : length app.variables ≡ length entries.variables
+  pub handlers : length app.handlers ≡ length entries.handlers
   pub tasks : length (of_file app.daemon app.tasks) ≡ length entries.tasks
   pub daemon : is_some app.daemon ≡ is_some entries.daemon

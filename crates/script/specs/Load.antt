@@ -1,5 +1,5 @@
 -- All checks of a document in their order, and the application that it names.
-use Rattle.std.specs.Prelude.{ℕ, ◌==◌, Bool, List, [], ◌∷◌, ◌++◌, length, map, Option, option_and_then, if◌then◌else◌}
+use Rattle.std.specs.Prelude.{ℕ, ◌==◌, Bool, false, List, [], ◌∷◌, ◌++◌, length, map, Option, option_and_then, if◌then◌else◌}
 use Rattle.toml.specs.Data.{Data, Members, as_table}
 use Rattle.model.specs.Application.{Application, Limits}
 use Rattle.model.specs.Scripts.{most_ticks}
@@ -9,7 +9,7 @@ use Rattle.script.specs.declared.place.Section.TheVariants as section
 use Rattle.script.specs.declared.place.Key.TheVariants as key
 use Rattle.script.specs.Faults.{at_section, fault_at, first_fault, fails_if, need, optional}
 use Rattle.script.specs.Names.{handler_names, task_names}
-use Rattle.script.specs.Values.{member_of, number_fault, number_or, boolean_fault, boolean_named}
+use Rattle.script.specs.Values.{member_of, number_fault, number_or, boolean_fault, boolean_or}
 use Rattle.script.specs.Entries.{Entries, all_objects, daemon_of, initial_values, isr_names, source_names, names_of}
 use Rattle.script.specs.Sections.{data_at, no_entries, objects_fault, objects_named, groups_fault, groups_named, variables_fault}
 use Rattle.script.specs.Sections.{variables_named, handlers_fault, handlers_named, tasks_fault, tasks_named, daemon_fault}
@@ -25,7 +25,7 @@ most_limit = 1000000
 
 -- whether the document asks for idle that lets as many ticks pass in a step as come before the next thing to happen
 abbrev pub tickless_named : Members → Bool
-tickless_named document = boolean_named (data_at section.Tickless document)
+tickless_named document = boolean_or false (data_at section.Tickless document)
 
 -- It is a table, and its keys are limits, of a document that is tickless or not.
 abbrev pub limits_fault : (tickless : Bool) → Data → Option Fault

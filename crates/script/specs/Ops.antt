@@ -1,5 +1,6 @@
 -- Pass two: the ops of handlers and of tasks.
-use Rattle.std.specs.Prelude.{ℕ, Bool, true, false, ◌&&◌, not, nat_lt, List, [], ◌∷◌, length, map, fold, filter_map, ◌++◌, Option}
+use Rattle.std.specs.Prelude.{◌≤◌, ℕ, Bool, true, false, ◌&&◌, not, nat_lt, List, [], ◌∷◌, length, map, fold, filter_map, ◌++◌}
+use Rattle.std.specs.Prelude.{Option}
 use Rattle.std.specs.Prelude.{Some, None, is_none, slice_get, option_and_then}
 use Rattle.std.specs.Option.{option_map_or}
 use Rattle.toml.specs.Data.{Data, as_str}
@@ -13,7 +14,7 @@ use Rattle.model.specs.declared.op.IsrOp.{IsrOp}
 use Rattle.model.specs.declared.op.IsrOp.TheVariants as isr
 use Rattle.model.specs.Application.{Definition, Handler}
 use Rattle.model.specs.Blocks.{blocks_past, edge_of, edge_of_isr, ending, may_stand, with_ends}
-use Rattle.model.specs.Scripts.{fits}
+use Rattle.model.specs.Scripts.{fits, most_name_bytes, most_handler_ops, most_apart}
 use Rattle.script.specs.declared.fault.Fault.{Fault}
 use Rattle.script.specs.declared.fault.FaultKind.TheVariants.{BadOp, UnknownName, NoDaemon, OverwriteLength, BadNesting}
 use Rattle.script.specs.declared.place.Place.{Place}
@@ -145,7 +146,16 @@ scripts_fault entries = each_fault (task_scripts entries) tt 0 (map (λ (t : Raw
 
 -- a handler with its ops
 abbrev pub with_isr_ops : Entries → RawIsr → Handler
-with_isr_ops entries h = record { name = h.name; ops = ops_named handler_ops entries h.ops }
+with_isr_ops entries h = record {
+  name = h.name;
+  ops = ops_named handler_ops entries h.ops;
+  armed = h.armed;
+  apart = h.apart;
+}
+
+-- Its name is no longer, its ops are no more, and its comings no further apart than they may be.
+abbrev pub IsLimited : Handler → Type 0
+IsLimited h = (length h.name ≤ most_name_bytes) × (length h.ops ≤ most_handler_ops) × (h.apart ≤ most_apart)
 
 -- a task with its script
 abbrev pub with_script : Entries → Raw → Definition

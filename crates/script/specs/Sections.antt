@@ -1,11 +1,12 @@
 -- The sections of a document whose entries have names. `.._keys` are the checks of an entry's keys in their order, `.._named`
 -- is what it names, or what all of them name, and `.._fault` are all checks of the section.
-use Rattle.std.specs.Prelude.{◌-◌, nat_le, List, [], ◌∷◌, ◌++◌, length, map, fold, Option, Some, None, option_map, option_and_then}
+use Rattle.std.specs.Prelude.{◌-◌, nat_le, true, false, List, [], ◌∷◌, ◌++◌, length, map, fold, Option, Some, None, option_map}
+use Rattle.std.specs.Prelude.{option_and_then}
 use Rattle.toml.specs.Data.{Data, Members, as_table, get_member}
 use Rattle.model.specs.declared.object.ObjectKind.{ObjectKind}
 use Rattle.model.specs.declared.object.ObjectKind.TheVariants as kind
 use Rattle.model.specs.Scripts.{most_objects, most_groups, most_variables, most_handlers, most_tasks, most_items, most_count}
-use Rattle.model.specs.Scripts.{most_handler_ops, most_ops, priorities}
+use Rattle.model.specs.Scripts.{most_handler_ops, most_apart, most_ops, priorities}
 use Rattle.script.specs.declared.fault.Fault.{Fault}
 use Rattle.script.specs.declared.fault.FaultKind.TheVariants.{WrongKind, TooMany}
 use Rattle.script.specs.declared.place.Place.{Place}
@@ -15,7 +16,7 @@ use Rattle.script.specs.declared.place.Key.TheVariants as key
 use Rattle.script.specs.declared.object_section.ObjectSection.{ObjectSection}
 use Rattle.script.specs.declared.object_section.ObjectSection.TheVariants.{Queue, Binary, Counting, Mutex}
 use Rattle.script.specs.Faults.{at_section, fault_at, section_word, first_fault, fails_if, need, required, optional}
-use Rattle.script.specs.Values.{member_of, number_fault, number_named, boolean_fault, boolean_named, name_fault, name_named}
+use Rattle.script.specs.Values.{member_of, number_fault, number_named, boolean_fault, boolean_or, name_fault, name_named}
 use Rattle.script.specs.Values.{texts_fault, texts_named}
 use Rattle.script.specs.Arrays.{section_fault, section_named}
 use Rattle.script.specs.Entries.{ObjectEntry, GroupEntry, VariableEntry, RawIsr, Raw, DaemonEntry, Entries, names_of}
@@ -124,10 +125,17 @@ abbrev pub handler_keys : Entries → List RawIsr → Place → Members → Opti
 handler_keys earlier before p ms = first_fault (
     required p key.Name (name_fault (names_of earlier ++ map (λ (h : RawIsr). h.name) before)) ms
     ∷ required p key.Ops (texts_fault most_handler_ops) ms
+    ∷ optional p key.Armed boolean_fault ms
+    ∷ optional p key.Apart (number_fault 0 most_apart) ms
     ∷ [])
 
 abbrev pub handler_named : Option Members → RawIsr
-handler_named ms = record { name = name_named ms; ops = texts_named key.Ops ms }
+handler_named ms = record {
+  name = name_named ms;
+  ops = texts_named key.Ops ms;
+  armed = boolean_or true (member_of key.Armed ms);
+  apart = number_named key.Apart ms;
+}
 
 unfoldable pub handlers_fault : Entries → Members → Option Fault
 handlers_fault earlier document =
@@ -148,7 +156,7 @@ abbrev pub task_named : Option Members → Raw
 task_named ms = record {
   name = name_named ms;
   priority = number_named key.Priority ms;
-  endless = boolean_named (member_of key.Endless ms);
+  endless = boolean_or false (member_of key.Endless ms);
   script = texts_named key.Script ms;
 }
 

@@ -1,6 +1,6 @@
 -- What is at the keys of a document, with its checks: numbers, booleans, names and texts. If a check fails the value is a
 -- default, which nobody sees.
-use Rattle.std.specs.Prelude.{ℕ, ℤ, pos, negsuc, Bool, false, not, ◌||◌, nat_lt, List, [], ◌∷◌, Option, Some, None, is_none}
+use Rattle.std.specs.Prelude.{ℕ, ℤ, pos, negsuc, Bool, not, ◌||◌, nat_lt, List, [], ◌∷◌, Option, Some, None, is_none}
 use Rattle.std.specs.Prelude.{option_map, option_and_then, unwrap_or}
 use Rattle.std.specs.List.{list_any}
 use Rattle.std.specs.Str.{bytes_eq}
@@ -55,9 +55,9 @@ number_named k ms = number_or 0 (member_of k ms)
 abbrev pub boolean_fault : Place → Data → Option Fault
 boolean_fault p d = fails_if (is_none (as_bool d)) (fault_at WrongKind p)
 
--- which one, or false if it is left out
-abbrev pub boolean_named : Option Data → Bool
-boolean_named d = unwrap_or (option_and_then as_bool d) false
+-- which one, or the default if it is left out
+abbrev pub boolean_or : Bool → Option Data → Bool
+boolean_or default d = unwrap_or (option_and_then as_bool d) default
 
 -- ---- names
 

@@ -5,13 +5,13 @@ ghost use Rattle.toml.specs.Data.{Members};
 ghost use Rattle.toml.specs.View.{table_view};
 ghost use Rattle.script.specs.declared.fault.Fault.{Fault};
 ghost use Rattle.script.specs.declared.place.Section.TheVariants as section;
-ghost use Rattle.model.specs.Application.{Handler, Definition};
+ghost use Rattle.model.specs.Application.{Definition};
 ghost use Rattle.model.specs.Blocks.{Nests, edges_of};
-ghost use Rattle.model.specs.Scripts.{IsObjectKind, IsDefinition, most_objects, most_variables, most_handlers, most_handler_ops, most_name_bytes, most_tasks, most_ticks};
+ghost use Rattle.model.specs.Scripts.{IsObjectKind, IsDefinition, most_objects, most_variables, most_handlers, most_tasks, most_ticks};
 ghost use Rattle.script.specs.Faults.{Judges, Loads, first_fault};
 ghost use Rattle.script.specs.Entries.{all_objects, daemon_of, initial_values, isr_names, source_names, entries_view};
 ghost use Rattle.script.specs.Sections.{data_at};
-ghost use Rattle.script.specs.Ops.{all_tasks, handler_ops_fault, scripts_fault, with_isr_ops, with_script};
+ghost use Rattle.script.specs.Ops.{IsLimited, all_tasks, handler_ops_fault, scripts_fault, with_isr_ops, with_script};
 ghost use Rattle.script.specs.Interrupts.{interrupts_fault, interrupts_named};
 ghost use Rattle.script.specs.Points.{campaign_fault, campaign_named};
 ghost use Rattle.script.specs.Load.{most_limit, limits_fault, limits_named, load_fault, app_named};
@@ -95,7 +95,7 @@ fn parts_of(
         (parts.variables.items ≡ initial_values (entries_view entries.now)) × (length parts.variables.items ≤ most_variables)) }
     ensures handlers { IfOk result (λ parts.
         (parts.handlers.items ≡ map (with_isr_ops (entries_view entries.now)) (entries_view entries.now).handlers)
-        × AllByRecursion (λ (h : Handler). (length h.name ≤ most_name_bytes) × (length h.ops ≤ most_handler_ops)) parts.handlers.items
+        × AllByRecursion IsLimited parts.handlers.items
         × (length parts.handlers.items ≤ most_handlers)) }
     ensures interrupts { IfOk result (λ parts. parts.interrupts ≡ listed.now) }
     ensures tasks { IfOk result (λ parts.
@@ -190,7 +190,7 @@ impl FromDocument for App {
         let value = at_section(document, Section::Start);
         let start = optional_number(value, Place::section(Section::Start), 0, u32::MAX, 0)?;
         let value = at_section(document, Section::Tickless);
-        let tickless = optional_boolean(value, Place::section(Section::Tickless))?;
+        let tickless = optional_boolean(value, Place::section(Section::Tickless), false)?;
         let limits = limits(document, tickless)?;
         let entries = named_entries(document)?;
         app_of(alloc, document, start, tickless, limits, &entries)

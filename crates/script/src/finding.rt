@@ -6,10 +6,11 @@ ghost use Rattle.script.specs.Entries.{object_view};
 ghost use Rattle.script.specs.Finding.{is_called};
 
 use crate::entries::NamedEntries;
+use crate::interrupts::handler_among;
 use crate::named::index_of;
 use crate::named_object::NamedObject;
 use grammar::{Finding, ObjectSort};
-use model::{GroupId, ObjectId, TaskId, VariableId};
+use model::{GroupId, HandlerId, ObjectId, TaskId, VariableId};
 
 // Whether it is an object of this sort and this name.
 fn is_called(object: &NamedObject<'_>, sort: ObjectSort, word: &[u8]) -> bool
@@ -55,5 +56,9 @@ impl Finding for NamedEntries<'_> {
     fn variable(&self, word: &[u8]) -> Option<VariableId> {
         let index = index_of(self.variables.as_slice(), word)?;
         VariableId::new(index as u8)
+    }
+
+    fn handler(&self, word: &[u8]) -> Option<HandlerId> {
+        handler_among(self, word)
     }
 }

@@ -2,12 +2,12 @@
 ghost use Rattle.std.specs.Prelude.{◌≡◌, ◌≤◌, ◌<◌, ◌++◌, ◌∷◌, [], true, map, length, IfOk, OnOk};
 ghost use Rattle.std.specs.List.{AllByRecursion};
 ghost use Rattle.toml.specs.View.{view};
-ghost use Rattle.model.specs.Application.{Handler, Definition};
+ghost use Rattle.model.specs.Application.{Definition};
 ghost use Rattle.model.specs.Blocks.{Nests, edges_of, ending, may_come, open_behind};
-ghost use Rattle.model.specs.Scripts.{InRange, IsScript, IsDefinition, most_tasks, most_ops, most_handlers, most_handler_ops, most_name_bytes};
+ghost use Rattle.model.specs.Scripts.{InRange, IsScript, IsDefinition, most_tasks, most_ops, most_handlers, most_handler_ops};
 ghost use Rattle.script.specs.Faults.{Judges};
 ghost use Rattle.script.specs.Entries.{object_view, isr_view, raw_view, entries_view};
-ghost use Rattle.script.specs.Ops.{allows, handler_ops, op_in, op_fault, blocks_with, script_fault, ops_named, script_named, handler_ops_fault, scripts_fault, with_isr_ops, with_script};
+ghost use Rattle.script.specs.Ops.{IsLimited, allows, handler_ops, op_in, op_fault, blocks_with, script_fault, ops_named, script_named, handler_ops_fault, scripts_fault, with_isr_ops, with_script};
 
 use crate::entries::NamedEntries;
 use crate::fault::{Fault, FaultKind};
@@ -227,11 +227,11 @@ fn handler_of(
     handler: &RawHandler<'_>,
 ) -> Result<HandlerDefinition, AllocError>
     ensures handler { IfOk result (λ h. h ≡ with_isr_ops (entries_view entries.now) (isr_view handler.now)) }
-    ensures formed { IfOk result (λ h. (length h.name ≤ most_name_bytes) × (length h.ops ≤ most_handler_ops)) }
+    ensures formed { IfOk result IsLimited }
 {
     let ops = ops_of(alloc, entries, handler.ops)?;
     let name = String::from_str(alloc, handler.name)?;
-    Ok(HandlerDefinition::new(name, ops))
+    Ok(HandlerDefinition::new(name, ops).arriving(handler.armed, handler.apart))
 }
 
 /// The handlers with their ops.
@@ -241,8 +241,7 @@ pub(crate) fn handlers_of(
 ) -> Result<Vec<HandlerDefinition>, AllocError>
     ensures handlers { IfOk result (λ v. v.items
         ≡ map (with_isr_ops (entries_view entries.now)) (entries_view entries.now).handlers) }
-    ensures formed { IfOk result (λ v. AllByRecursion (λ (h : Handler).
-        (length h.name ≤ most_name_bytes) × (length h.ops ≤ most_handler_ops)) v.items) }
+    ensures formed { IfOk result (λ v. AllByRecursion IsLimited v.items) }
     ensures few { IfOk result (λ v. length v.items ≤ most_handlers) }
 {
     let mut definitions = Vec::new(alloc);

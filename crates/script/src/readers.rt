@@ -111,7 +111,17 @@ impl<'a> EntryReader<'a> for HandlerReader<'_> {
     ) -> Result<RawHandler<'a>, Fault> {
         let name = new_name(table, place, self.0, before)?;
         let ops = texts(table, place, Key::Ops, HandlerDefinition::MOST_OPS)?;
-        Ok(RawHandler { name, ops })
+        let value = at_key(table, Key::Armed);
+        let armed = optional_boolean(value, place.key(Key::Armed), true)?;
+        let value = at_key(table, Key::Apart);
+        let most = HandlerDefinition::MOST_APART;
+        let apart = optional_number(value, place.key(Key::Apart), 0, most, 0)?;
+        Ok(RawHandler {
+            name,
+            ops,
+            armed,
+            apart,
+        })
     }
 }
 
@@ -138,7 +148,7 @@ impl<'a> EntryReader<'a> for TaskReader<'_> {
         let name = new_name(table, place, self.0, before)?;
         let priority = required_number(table, place, Key::Priority, 0, HIGHEST_PRIORITY)?;
         let value = at_key(table, Key::Endless);
-        let endless = optional_boolean(value, place.key(Key::Endless))?;
+        let endless = optional_boolean(value, place.key(Key::Endless), false)?;
         let script = texts(table, place, Key::Script, Script::MOST_OPS)?;
         Ok(RawTask {
             name,

@@ -5,7 +5,7 @@ ghost use Rattle.toml.specs.View.{view, table_view};
 ghost use Rattle.model.specs.Scripts.{most_name_bytes};
 ghost use Rattle.script.specs.declared.place.Key.TheVariants as key;
 ghost use Rattle.script.specs.Faults.{Judges, seen, key_word, required};
-ghost use Rattle.script.specs.Values.{data_of, number_fault, integer_named, number_or, number_named, boolean_fault, boolean_named, name_fault, name_named, text_elements, texts_fault, texts_named};
+ghost use Rattle.script.specs.Values.{data_of, number_fault, integer_named, number_or, number_named, boolean_fault, boolean_or, name_fault, name_named, text_elements, texts_fault, texts_named};
 ghost use Rattle.script.specs.Arrays.{each_fault, array_of};
 ghost use Rattle.script.specs.Entries.{entries_view, names_of};
 ghost use Rattle.script.specs.Sections.{data_at};
@@ -141,13 +141,17 @@ pub(crate) fn required_number(
 
 // ---- booleans
 
-/// A boolean; false if there is none.
-pub(crate) fn optional_boolean(value: Option<&Value>, place: Place) -> Result<bool, Fault>
+/// A boolean, or the default if there is none.
+pub(crate) fn optional_boolean(
+    value: Option<&Value>,
+    place: Place,
+    default: bool,
+) -> Result<bool, Fault>
     ensures { Judges result
-        (option_and_then (boolean_fault place) (data_of value.entry)) (boolean_named (data_of value.entry)) }
+        (option_and_then (boolean_fault place) (data_of value.entry)) (boolean_or default (data_of value.entry)) }
 {
     let Some(value) = value else {
-        return Ok(false);
+        return Ok(default);
     };
     match value.as_bool() {
         Some(boolean) => Ok(boolean),

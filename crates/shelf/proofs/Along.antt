@@ -52,17 +52,18 @@ chosen : (t : Bool) (a b : ℕ) → t ≡ true → (if t then a else b) ≡ a
 chosen true a b is = refl
 chosen false a b is = absurd (cc)
 
--- what the row of a point that is reached costs from there
-pub cost_is : (shelf : Shelved) (point : List Injection) → first_step point < shelf.base.steps
-    → (walked steps from to : ℕ) → walked ≡ 0 → first_step point < steps
-    → to + first_step point ≡ from + way_to shelf.stride walked (first_step point) + steps → to ≡ from + cost_of shelf point steps
-cost_is shelf point reached walked steps from to none past risen =
-    let first = first_step point in
-    let way : way_to shelf.stride walked first ≡ first % shelf.stride =
-    ap (λ (w : ℕ). way_to shelf.stride w first) none ∙ way_from_reset shelf.stride first in
-    let cost : cost_of shelf point steps ≡ first % shelf.stride + (steps - first) =
-    chosen (nat_lt first shelf.base.steps) (first % shelf.stride + (steps - first)) 0 (lt-ltb first shelf.base.steps reached) in
-    omega (arith, way, cost, past, risen)
+-- what the row of a point costs, to whose first injection the base run gets
+pub cost_beyond : (shelf : Shelved) (point : List Injection) → first_step point < shelf.base.steps → (reached : Bool) (steps : ℕ)
+    → cost_of shelf point reached steps
+    ≡ first_step point % shelf.stride + (if reached then steps - first_step point else 0)
+cost_beyond shelf point l reached steps =
+    chosen (nat_lt (first_step point) shelf.base.steps)
+    (first_step point % shelf.stride + (if reached then steps - first_step point else 0)) 0
+    (lt-ltb (first_step point) shelf.base.steps l)
+
+-- the way of a walk that is at reset
+pub way_is : (stride walked first : ℕ) → walked ≡ 0 → way_to stride walked first ≡ first % stride
+way_is stride walked first none = ap (λ (w : ℕ). way_to stride w first) none ∙ way_from_reset stride first
 
 -- ---- the stop before a step
 

@@ -1,5 +1,5 @@
 -- A base run with the kernel as it was along it, and what rows cost from there.
-use Rattle.std.specs.Prelude.{◌≡◌, ℕ, ◌+◌, ◌-◌, ◌*◌, ◌%◌, ◌<◌, ◌≤◌, List, [], IfSome, length, min, nat_le, nat_lt, slice_get}
+use Rattle.std.specs.Prelude.{◌≡◌, ℕ, ◌+◌, ◌-◌, ◌*◌, ◌%◌, ◌<◌, ◌≤◌, Bool, List, [], IfSome, length, min, nat_le, nat_lt, slice_get}
 use Rattle.std.specs.Prelude.{if◌then◌else◌}
 use Rattle.model.specs.declared.plan.Injection.{Injection}
 use Rattle.model.specs.Points.{first_step}
@@ -40,7 +40,9 @@ abbrev pub way_to : (stride walked step : ℕ) → ℕ
 way_to stride walked step = if nat_le walked step then min (step - walked) (step % stride) else step % stride
 
 -- How many steps are done for the row of a point by itself, which ends after this many: those from the stop before its first
--- injection on; none if the base run doesn't reach that.
-abbrev pub cost_of : Shelved → List Injection → ℕ → ℕ
-cost_of shelf point steps =
-    if nat_lt (first_step point) shelf.base.steps then first_step point % shelf.stride + (steps - first_step point) else 0
+-- injection on; if that can't come there, those up to it; none if the base run doesn't get there.
+abbrev pub cost_of : Shelved → List Injection → (reached : Bool) → ℕ → ℕ
+cost_of shelf point reached steps =
+    if nat_lt (first_step point) shelf.base.steps
+    then first_step point % shelf.stride + (if reached then steps - first_step point else 0)
+    else 0

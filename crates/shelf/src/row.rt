@@ -11,12 +11,11 @@ pub struct RowBeginning {
     pub end: Option<End>,
 }
 
-/// A row of a campaign with all its events: the run with its point's injections if the base run reaches the first of them, otherwise the
-/// base run.
+/// A row of a campaign with all its events: the run with its point's injections if the point is reached, otherwise the base run.
 #[derive(Drop)]
 pub struct Row {
     pub point: Point,
-    /// Whether the base run gets beyond the step of the point's first injection.
+    /// Whether the base run gets beyond the step of the point's first injection, and that can come there.
     pub reached: bool,
     pub run: Run,
 }

@@ -4,7 +4,7 @@ ghost use Rattle.std.specs.Prelude.{IfSome, OnErr, OnOk};
 ghost use Rattle.model.specs.Points.{first_step, last_step};
 ghost use Rattle.model.specs.Application.{Application};
 ghost use Rattle.model.specs.Run as definition;
-ghost use Rattle.model.specs.Run.{IsRow, IsRun, events_after};
+ghost use Rattle.model.specs.Run.{IsRow, IsRun, events_after, is_reached};
 ghost use Rattle.machine.specs.Logged.{all_of};
 ghost use Rattle.machine.specs.Can.{IsUnderWay};
 ghost use Rattle.kernel.specs.Rows.{Extends};
@@ -86,7 +86,7 @@ impl Shelf {
     }
 
     /// Whether the base run gets beyond the step of the point's first injection.
-    pub fn reaches(&self, point: &Point) -> bool
+    pub fn gets_to(&self, point: &Point) -> bool
         ensures { result ≡ nat_lt (first_step point.now) self.now.base.steps }
     {
         point.first_step() < self.base.steps
@@ -153,9 +153,15 @@ impl Shelf {
         }
     }
 
-    // Goes along the base run to the first injection of a point that it reaches. What the base run reports on the way leaves the trail.
-    // The meter rises by the steps on the way. `Memory` is returned only if the base run reports something before that.
-    fn walk_to(
+    /// Goes along the base run to the first injection of a point, and returns whether that can come there: then the point is reached.
+    /// The walk goes from where it is, or from the nearest stop before the injection, whichever is nearer. So most points that come in
+    /// order take few steps that aren't their rows' own. What the base run reports on the way leaves the trail. The meter, which is
+    /// below 2^62, rises by the steps on the way.
+    ///
+    /// `Err(Memory)` is returned only if a growth was refused, so never if the base run reports nothing before that. The meter has then
+    /// risen by no more than the way. The trail then has those events that it had, and some more after them, and the walk can't be used
+    /// any more.
+    pub fn walk_to(
         &self,
         app: &App,
         point: &Point,
@@ -163,13 +169,14 @@ impl Shelf {
         meter: &mut Meter,
         log: &mut StepLog,
         trail: &mut Trail,
-    ) -> Result<(), Memory>
+    ) -> Result<bool, Memory>
         requires shelf { IsShelf app.now self.now }
         requires reached { first_step point.now < self.now.base.steps }
         requires walk { IsWalk app.now self.now.limits walk.old }
         requires meter { meter.old < 2 ^ 62 }
         ensures walk { OnOk result (IsWalk app.now self.now.limits walk.new) }
         ensures there { OnOk result (walk.new.kernel.steps ≡ first_step point.now) }
+        ensures comes { IfOk result (λ comes. comes ≡ is_reached app.now self.now.limits point.now self.now.base.steps) }
         ensures trail { OnOk result (all_of trail.new ≡ all_of trail.old) }
         ensures meter { OnOk result
             (meter.new ≡ meter.old + way_to self.now.stride walk.old.kernel.steps (first_step point.now)) }
@@ -185,27 +192,23 @@ impl Shelf {
         walk.go_to(app, point.first_step(), &self.limits, meter, log, trail)?;
         walk.told += trail.len() - before;
         trail.truncate(before);
-        Ok(())
+        Ok(walk.can_come(point))
     }
 
-    /// Begins the row of a point that the base run reaches, and goes along it up to the step `until`, which is after the last injection or
-    /// no less than the limit of steps, or to its end before that. The trail gains the row's events from the first injection on; those
-    /// before it are the base run's, and the result says how many they are. What the kernel and the log have doesn't matter.
-    ///
-    /// The walk goes along the base run to the first injection: from where it is, or from the nearest stop before that, whichever is
-    /// nearer. So most points that come in order take few steps that aren't their rows' own. The meter, which is below 2^62, rises by the
-    /// steps on that way and those of the row from the injection on.
+    /// Begins the row of a point, to whose first injection a walk has come (`walk_to`), and goes along it up to the step `until`, which is
+    /// after the last injection or no less than the limit of steps, or to its end before that. The trail gains the row's events from the
+    /// first injection on; those before it are the base run's, and the result says how many they are. What the kernel and the log have
+    /// doesn't matter. The meter, which is below 2^63, rises by the row's steps from the injection on.
     ///
     /// `Err(Memory)` is returned only if a growth was refused, so never if the row reports nothing.
-    /// The meter has then risen by no more than the way and the row's steps from that injection on.
-    /// The trail then has those events that it had, and some more after them, and the walk can't be
-    /// used any more.
+    /// The meter has then risen by no more than the row's steps from that injection on.
+    /// The trail then has those events that it had, and some more after them.
     pub fn begin_row_after(
         &self,
         app: &App,
         point: &Point,
         until: u32,
-        walk: &mut Walk,
+        walk: &Walk,
         kernel: &mut Kernel,
         meter: &mut Meter,
         log: &mut StepLog,
@@ -214,22 +217,19 @@ impl Shelf {
         requires shelf { IsShelf app.now self.now }
         requires reached { first_step point.now < self.now.base.steps }
         requires beyond { min (last_step point.now + 1) self.now.limits.steps ≤ until }
-        requires walk { IsWalk app.now self.now.limits walk.old }
-        requires meter { meter.old < 2 ^ 62 }
-        ensures walk { OnOk result (IsWalk app.now self.now.limits walk.new) }
+        requires walk { IsWalk app.now self.now.limits walk.now }
+        requires there { walk.now.kernel.steps ≡ first_step point.now }
+        requires meter { meter.old < 2 ^ 62 + first_step point.now }
         ensures there { IfOk result (λ beginning. beginning.end ≡ None → kernel.new.steps ≡ until) }
         ensures begun { IfOk result (HasBegun app.now point.now self.now.limits kernel.new (all_of trail.old) (all_of trail.new)) }
         ensures before { IfOk result (λ beginning. beginning.before ≡ length (events_after app.now self.now.limits [] (first_step point.now))) }
-        ensures meter { OnOk result (meter.new + first_step point.now
-            ≡ meter.old + way_to self.now.stride walk.old.kernel.steps (first_step point.now) + kernel.new.steps) }
+        ensures meter { OnOk result (meter.new + first_step point.now ≡ meter.old + kernel.new.steps) }
         ensures rises { meter.old ≤ meter.new }
         ensures kept { OnErr result (Extends (all_of trail.old) (all_of trail.new)) }
         ensures refused { OnErr result ((run : definition.Run) → IsRun app.now point.now self.now.limits run
-            → (meter.new ≤ meter.old + way_to self.now.stride walk.old.kernel.steps (first_step point.now)
-            + (run.steps - first_step point.now)) × (0 < length run.events)) }
+            → (meter.new ≤ meter.old + (run.steps - first_step point.now)) × (0 < length run.events)) }
     {
         point.well_formed();
-        self.walk_to(app, point, walk, meter, log, trail)?;
         kernel.set_from(&walk.kernel);
         let end = begin_row(kernel, app, point, until, &self.limits, meter, log, trail)?;
         Ok(RowBeginning {
@@ -252,7 +252,7 @@ impl Shelf {
         Ok(events)
     }
 
-    // The row of a point that the base run doesn't reach.
+    // The row of a point that isn't reached.
     fn missed_row(&self, alloc: Global, point: Point) -> Result<Row, Memory>
         ensures row { IfOk result (λ row. row ≡ record { point = point; reached = false; run = self.now.base }) }
         ensures memory { OnErr result (0 < length self.now.base.events) }
@@ -270,37 +270,40 @@ impl Shelf {
         })
     }
 
-    // The row of a point that the base run reaches.
+    // The row of a point, to whose first injection a walk has come, if it is reached. What the trail and the log have doesn't matter.
     fn reached_row(
         &self,
         alloc: Global,
         app: &App,
         point: &Point,
+        walk: &Walk,
         meter: &mut Meter,
+        log: &mut StepLog,
     ) -> Result<Row, Memory>
         requires shelf { IsShelf app.now self.now }
         requires reached { first_step point.now < self.now.base.steps }
-        requires meter { meter.old < 2 ^ 62 }
+        requires walk { IsWalk app.now self.now.limits walk.now }
+        requires there { walk.now.kernel.steps ≡ first_step point.now }
+        requires meter { meter.old < 2 ^ 62 + first_step point.now }
         ensures row { IfOk result (λ row. (row.point ≡ point.now) × (row.reached ≡ true)
             × IsRun app.now point.now self.now.limits row.run) }
-        ensures meter { IfOk result (λ row. meter.new ≡ meter.old + cost_of self.now point.now row.run.steps) }
+        ensures meter { IfOk result (λ row. meter.new + first_step point.now ≡ meter.old + row.run.steps) }
+        ensures past { IfOk result (λ row. first_step point.now < row.run.steps) }
         ensures rises { meter.old ≤ meter.new }
         ensures refused { OnErr result ((run : definition.Run) → IsRun app.now point.now self.now.limits run
-            → (meter.new ≤ meter.old + cost_of self.now point.now run.steps) × (0 < length run.events)) }
+            → (meter.new ≤ meter.old + (run.steps - first_step point.now)) × (0 < length run.events)) }
     {
         self.limits.well_formed();
-        let mut walk = Walk::new(app);
         let mut kernel = Kernel::boot(app);
-        let mut log = StepLog::new();
         let mut trail = Trail::new(alloc);
         let RowBeginning { before, end } = self.begin_row_after(
             app,
             point,
             u32::MAX,
-            &mut walk,
+            walk,
             &mut kernel,
             meter,
-            &mut log,
+            log,
             &mut trail,
         )?;
         let Some(end) = end else {
@@ -320,11 +323,44 @@ impl Shelf {
         })
     }
 
-    /// The row of a point: the run with all its injections if the base run gets beyond the step of the first, otherwise the base run.
+    // The row of a point to whose first injection the base run gets.
+    fn row_beyond(
+        &self,
+        alloc: Global,
+        app: &App,
+        point: &Point,
+        meter: &mut Meter,
+    ) -> Result<Row, Memory>
+        requires shelf { IsShelf app.now self.now }
+        requires reached { first_step point.now < self.now.base.steps }
+        requires meter { meter.old < 2 ^ 62 }
+        ensures point { IfOk result (λ row. row.point ≡ point.now) }
+        ensures row { IfOk result (λ row. IsRow app.now self.now.limits point.now row.reached row.run) }
+        ensures meter { IfOk result (λ row. meter.new ≡ meter.old + cost_of self.now point.now row.reached row.run.steps) }
+        ensures rises { meter.old ≤ meter.new }
+        ensures refused { OnErr result ((reached : Bool) (run : definition.Run)
+            → IsRow app.now self.now.limits point.now reached run
+            → (meter.new ≤ meter.old + cost_of self.now point.now reached run.steps) × (0 < length run.events)) }
+    {
+        point.well_formed();
+        let mut walk = Walk::new(app);
+        let mut log = StepLog::new();
+        let mut trail = Trail::new(alloc);
+        if self.walk_to(app, point, &mut walk, meter, &mut log, &mut trail)? {
+            self.reached_row(alloc, app, point, &walk, meter, &mut log)
+        } else {
+            self.missed_row(alloc, *point)
+        }
+    }
+
+    /// The row of a point: the run with all its injections if the base run gets beyond the step of the first and that can come there,
+    /// otherwise the base run.
     ///
-    /// The meter, which is below 2^62, rises by the steps from the nearest stop before the first injection to the row's end; by none if
-    /// the point isn't reached. `Err(Memory)` is returned only if a growth was refused, so never if the row reports nothing. The meter has
-    /// then risen by no more than that.
+    /// The meter, which is below 2^62, rises by the steps from the nearest stop before the first injection to the row's end. If the point
+    /// isn't reached, it rises by those to the injection, if the base run gets there, and otherwise by none.
+    ///
+    /// `Err(Memory)` is returned only if a growth was refused, so never if the row reports nothing. The meter has then risen by no more
+    /// than that.
     pub fn run_point(
         &self,
         alloc: Global,
@@ -336,14 +372,14 @@ impl Shelf {
         requires meter { meter.old < 2 ^ 62 }
         ensures point { IfOk result (λ row. row.point ≡ point) }
         ensures row { IfOk result (λ row. IsRow app.now self.now.limits point row.reached row.run) }
-        ensures meter { IfOk result (λ row. meter.new ≡ meter.old + cost_of self.now point row.run.steps) }
+        ensures meter { IfOk result (λ row. meter.new ≡ meter.old + cost_of self.now point row.reached row.run.steps) }
         ensures rises { meter.old ≤ meter.new }
         ensures refused { OnErr result ((reached : Bool) (run : definition.Run)
             → IsRow app.now self.now.limits point reached run
-            → (meter.new ≤ meter.old + cost_of self.now point run.steps) × (0 < length run.events)) }
+            → (meter.new ≤ meter.old + cost_of self.now point reached run.steps) × (0 < length run.events)) }
     {
-        if self.reaches(&point) {
-            self.reached_row(alloc, app, &point, meter)
+        if self.gets_to(&point) {
+            self.row_beyond(alloc, app, &point, meter)
         } else {
             self.missed_row(alloc, point)
         }

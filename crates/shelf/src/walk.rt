@@ -1,6 +1,8 @@
 //! A kernel that goes along the base run.
 ghost use Rattle.std.specs.Prelude.{◌≡◌, ◌<◌, ◌≤◌, ◌+◌, ◌^◌, ℕ, [], None, OnErr, OnOk, length};
-ghost use Rattle.model.specs.Application.{Limits};
+ghost use Rattle.model.specs.Application.{Application, Limits};
+ghost use Rattle.model.specs.Handlers.{can_come};
+ghost use Rattle.model.specs.Points.{first_handler, first_step};
 ghost use Rattle.model.specs.Run.{end_of, events_after, state_after};
 ghost use Rattle.machine.specs.Can.{IsUnderWay};
 ghost use Rattle.machine.specs.Logged.{all_of};
@@ -9,7 +11,7 @@ ghost use Rattle.kernel.specs.Rows.{Extends};
 ghost use Rattle.shelf.specs.Walks.{IsWalk};
 
 use kernel::{Kernel, StepLog, Trail, go_far};
-use model::{App, End, Limits, Memory, Meter};
+use model::{App, End, Limits, Memory, Meter, Point};
 
 /// A kernel that goes along the base run, from the first injection of one point to that of the
 /// next, and how many events that run has reported before it. If points come in order, it does each
@@ -30,6 +32,15 @@ impl Walk {
             kernel: Kernel::boot(app),
             told: 0,
         }
+    }
+
+    /// Whether the first interrupt of a point can come, if the walk is before the step of it.
+    pub(crate) fn can_come(&self, point: &Point) -> bool
+        ensures { (app : Application) (limits : Limits) → IsWalk app limits self.now
+            → self.now.kernel.steps ≡ first_step point.now
+            → result ≡ can_come (state_after app limits [] (first_step point.now)) (first_handler point.now) }
+    {
+        self.kernel.can_come(point.first().handler)
     }
 
     /// Goes along the base run up to this step, which that reaches. The trail gains what it reports on the way. The meter, which is below

@@ -1,8 +1,11 @@
 -- What an op of one phase keeps.
 use Rattle.model.specs.declared.value.ValueOp.{ValueOp}
-use Rattle.model.specs.Ops.{calculate, store}
+use Rattle.model.specs.Ops.{calculate, store, control, do_to_source, complete}
+use Rattle.model.specs.declared.source.SourceOp.TheVariants.{Arm, Disarm, Raise, Cancel}
+use Rattle.model.specs.declared.source.SourceOp.{SourceOp}
 use Rattle.model.specs.Values.{answer_of, number_of, stored}
-use Rattle.soundness.proofs.Sound.{revalued}
+use Rattle.soundness.proofs.Sound.{revalued, done_to_source}
+use Rattle.model.specs.declared.op.Op.TheVariants as op
 use Rattle.model.specs.declared.op.Op.TheVariants.{Value}
 use Rattle.model.specs.Step.{call_with_number, notify_by_number}
 use Rattle.soundness.proofs.Handled.{fits-number}
@@ -42,6 +45,25 @@ module _ (app : Application) (formed : IsWellFormed app) where
       answered app formed free (store op a s) i (Value op) (revalued app formed free s (stored op a s.variables) h)
       (ready_free (status_at s i) r) is a refl
 
+  controlled : (s : State) (i handler : ℕ) (what : SourceOp) → IsSound app free s → is_ready s i ≡ true
+      → op_at app i (progress_at s i).op_index ≡ Some (op.Source handler what) → IsSound app free (control app i handler what s)
+  unfolding control
+  controlled s i handler what h r is = by_what what is where
+    by_what : (what : SourceOp) → op_at app i (progress_at s i).op_index ≡ Some (op.Source handler what)
+        → IsSound app free (complete app i (progress_at s i) (do_to_source handler what s))
+    by_what Arm is =
+        plain app formed free (do_to_source handler Arm s) i (done_to_source app formed free handler Arm s h)
+        (ready_free (status_at s i) r) (op.Source handler Arm) is (progress_at s i).answer refl
+    by_what Disarm is =
+        plain app formed free (do_to_source handler Disarm s) i (done_to_source app formed free handler Disarm s h)
+        (ready_free (status_at s i) r) (op.Source handler Disarm) is (progress_at s i).answer refl
+    by_what (Raise n) is =
+        plain app formed free (do_to_source handler (Raise n) s) i (done_to_source app formed free handler (Raise n) s h)
+        (ready_free (status_at s i) r) (op.Source handler (Raise n)) is (progress_at s i).answer refl
+    by_what Cancel is =
+        plain app formed free (do_to_source handler Cancel s) i (done_to_source app formed free handler Cancel s h)
+        (ready_free (status_at s i) r) (op.Source handler Cancel) is (progress_at s i).answer refl
+
   -- an op of one phase
   pub acted : (s : State) (i : ℕ) (op : Op) → IsSound app free s → s.locked ≡ None → i < length s.tasks → is_ready s i ≡ true
       → op_at app i (progress_at s i).op_index ≡ Some op → course (Some op) ≡ InOne → IsSound app free (act app i op s)
@@ -68,6 +90,7 @@ module _ (app : Application) (formed : IsWellFormed app) where
   acted s i Since h u l r is w = since_stamped app formed free s i Since h (ready_free (status_at s i) r) is refl
   acted s i (Await o a ticks) h u l r is w = absurd (cc)
   acted s i (Value op) h u l r is w = calculated s i op h r is
+  acted s i (op.Source j what) h u l r is w = controlled s i j what h r is
   acted s i (Do o v) h u l r is w =
       done_now app formed free s i o v (call_with_number s i v) h u l r is
       (fits-number app o s.variables (progress_at s i).answer v

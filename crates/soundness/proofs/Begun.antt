@@ -7,9 +7,10 @@ use Rattle.std.proofs.lemmas.List.{length-map}
 use Rattle.std.specs.Option.{IfSome}
 use Rattle.model.specs.Application.{Application, Limits}
 use Rattle.model.specs.Scripts.{IsWellFormed}
+use Rattle.model.specs.State.{with_source}
 use Rattle.model.specs.State.{State, Source, source_at, for_each}
 use Rattle.model.specs.Switching.{preempt, settle, is_ready, is_held, is_critical, unless_held}
-use Rattle.model.specs.Handlers.{handle, is_tick, serve, inject, pend, pending_of, none_pending, serve_pending}
+use Rattle.model.specs.Handlers.{can_come, come, note_coming, is_tick, serve, inject, pend, pending_of, none_pending, serve_pending}
 use Rattle.model.specs.Step.{act_current, before_step, step}
 use Rattle.model.specs.Invariant.{hold_of, IsRunning, RunsIn, IsState}
 use Rattle.model.proofs.Sorting.{by_test}
@@ -17,22 +18,22 @@ use Rattle.soundness.proofs.Settled.{settled-preempt, when_held, when_free, no_t
 use Rattle.soundness.proofs.Frames.{keeps-preempt}
 use Rattle.soundness.proofs.Coming.{comes-serve, comes-inject, comes-each}
 use Rattle.soundness.proofs.Sound.{preempted, resourced}
-use Rattle.soundness.proofs.Handled.{handled_between}
+use Rattle.soundness.proofs.Handled.{come_between}
 use Rattle.soundness.proofs.Phases.{free}
 use Rattle.soundness.proofs.Stepped.{at_rest, calm_now, current_done, hold_none, no_call_holds, sound_free, told}
 use Rattle.soundness.proofs.Ticked.{ticked_between}
 
 module _ (app : Application) (formed : IsWellFormed app) where
   -- a handler that comes
-  handled_then : (handler : ℕ) (s : State) → IsState app s → IsState app (unless_held preempt (handle app handler s))
-  handled_then handler s h = by_test (is_held t)
+  come_then : (handler : ℕ) (s : State) → IsState app s → IsState app (unless_held preempt (come app handler s))
+  come_then handler s h = by_test (is_held t)
       (λ held. subst (IsState app) (sym (when_held preempt t held)) k)
       (λ none. subst (IsState app) (sym (when_free preempt t none)) (preempted_at_rest none)) where
         t : State
-        t = handle app handler s
+        t = come app handler s
 
         k : IsState app t
-        k = handled_between app formed handler s h
+        k = come_between app formed handler s h
 
         preempted_at_rest : is_held t ≡ false → IsState app (preempt t)
         preempted_at_rest none =
@@ -52,7 +53,7 @@ module _ (app : Application) (formed : IsWellFormed app) where
   unfolding serve
   served_between source s shut h = by_test (is_tick app source)
       (λ t. rw t (ticked_between app formed s shut h))
-      (λ t. rw t (handled_then source s h))
+      (λ t. rw t (come_then source s h))
 
   -- None is open after it either.
   pub still_shut : (source : ℕ) (s : State) → is_critical s ≡ false → is_critical (serve app source s) ≡ false
@@ -66,7 +67,9 @@ module _ (app : Application) (formed : IsWellFormed app) where
   -- one that is injected
   pub injected_between : (source : ℕ) (s : State) → is_critical s ≡ false → IsState app s → IsState app (inject app source s)
   unfolding inject
-  injected_between source s shut h = served_between source s shut h
+  injected_between source s shut h = by_test (can_come s source)
+      (λ t. rw t (served_between source s shut h))
+      (λ t. rw t h)
 
   all_injected : (sources : List ℕ) (s : State) → is_critical s ≡ false → IsState app s
       → IsState app (for_each (inject app) sources s)
@@ -94,14 +97,17 @@ module _ (app : Application) (formed : IsWellFormed app) where
         by_current (Some i) r = record { holding = r.holding; ready = r.ready; setting = r.setting; placing = r.placing }
 
   -- an interrupt that becomes pending
-  pub pended_between : (handler : ℕ) (s : State) → IsState app s → IsState app (pend handler s)
-  pended_between handler s h =
-      raised s (slice_set s.sources handler (record (source_at s handler) { pending = true }))
-      (length-set s.sources handler (record (source_at s handler) { pending = true })) h
+  pub pended_between : (handler : ℕ) (s : State) → IsState app s → IsState app (pend app handler s)
+  pended_between handler s h = by_test (can_come s handler)
+      (λ t. rw t (raised now (note_coming app handler now).sources (length-set now.sources handler _)
+      (raised s now.sources (length-set s.sources handler (record (source_at s handler) { pending = true })) h)))
+      (λ t. rw t h) where
+        now : State
+        now = with_source handler (record (source_at s handler) { pending = true }) s
 
-  all_pended : (handlers : List ℕ) (s : State) → IsState app s → IsState app (for_each pend handlers s)
+  all_pended : (handlers : List ℕ) (s : State) → IsState app s → IsState app (for_each (pend app) handlers s)
   all_pended [] s h = h
-  all_pended (handler ∷ handlers) s h = all_pended handlers (pend handler s) (pended_between handler s h)
+  all_pended (handler ∷ handlers) s h = all_pended handlers (pend app handler s) (pended_between handler s h)
 
   pub none_pending_between : (s : State) → IsState app s → IsState app (none_pending s)
   none_pending_between s h =

@@ -1,17 +1,20 @@
 -- What interrupts make of the ticks, and of what holds the scheduler, when they come before a step: no more ticks pass than
 -- there are
 -- ticks among them.
+use Rattle.std.proofs.Common.{subst, ap}
 use Rattle.std.proofs.Common.{ap, ◌≡◌, ◌≤◌, ◌+◌, ◌∙◌, ℕ, Bool, true, false, List, [], ◌∷◌, length, refl, arith}
 use Rattle.std.specs.Prelude.{if◌then◌else◌}
 use Rattle.model.specs.Application.{Application}
 use Rattle.model.specs.State.{State, for_each}
 use Rattle.model.specs.Switching.{preempt, holds_ticks, is_critical, unless_held}
-use Rattle.model.specs.Handlers.{handle, is_tick, serve, inject, pend, pending_of, none_pending, serve_pending, tick_interrupt}
+use Rattle.model.specs.Handlers.{can_come, come, is_tick, serve, inject, pend, pending_of, none_pending, serve_pending}
+use Rattle.model.specs.Handlers.{tick_interrupt}
 use Rattle.model.specs.Step.{before_step}
 use Rattle.model.specs.Invariant.{hold_of, Suspension, suspension_of}
 use Rattle.model.proofs.Sorting.{by_test}
-use Rattle.soundness.proofs.Frames.{Keeps, keeps_both, keeps-handle, keeps-preempt, keeps-unless_held}
-use Rattle.soundness.proofs.Passing.{keeps-tick, elapsed-tick, hold-tick, suspensions-tick, sections-tick, sources-tick}
+use Rattle.soundness.proofs.Frames.{pending_in}
+use Rattle.soundness.proofs.Frames.{Keeps, keeps_both, keeps-come, keeps-preempt, keeps-unless_held}
+use Rattle.soundness.proofs.Passing.{keeps-tick, elapsed-tick, hold-tick, suspensions-tick, sections-tick, pending-tick}
 
 -- how many of these interrupts are the tick
 abbrev pub ticks_in : Application → List ℕ → ℕ
@@ -34,7 +37,7 @@ pub record Comes (n : ℕ) (old new : State) : Type 0 where
   pub hold : hold_of new ≡ hold_of old
   pub suspensions : new.suspensions ≡ old.suspensions
   pub sections : new.sections ≡ old.sections
-  pub sources : new.sources ≡ old.sources
+  pub pending : pending_in new ≡ pending_in old
 
 come_by : (old new : State) → Keeps old new → Comes 0 old new
 come_by old new k =
@@ -47,7 +50,7 @@ come_by old new k =
       hold = k.hold;
       suspensions = ap (λ (x : Suspension). x.suspensions) k.suspension;
       sections = ap (λ (x : Suspension). x.sections) k.suspension;
-      sources = k.sources;
+      pending = k.pending;
     }
 
 -- some come, and then others
@@ -65,7 +68,7 @@ come_both n m a b c h k =
       hold = k.hold ∙ h.hold;
       suspensions = k.suspensions ∙ h.suspensions;
       sections = k.sections ∙ h.sections;
-      sources = k.sources ∙ h.sources;
+      pending = k.pending ∙ h.pending;
     }
 
 comes-tick : (app : Application) (s : State) → Comes 1 s (tick_interrupt app s)
@@ -80,14 +83,27 @@ comes-tick app s =
       hold = hold-tick app s;
       suspensions = suspensions-tick app s;
       sections = sections-tick app s;
-      sources = sources-tick app s;
+      pending = pending-tick app s;
     }
 
-comes-handler : (app : Application) (handler : ℕ) (s : State) → Comes 0 s (unless_held preempt (handle app handler s))
+comes-handler : (app : Application) (handler : ℕ) (s : State) → Comes 0 s (unless_held preempt (come app handler s))
 comes-handler app handler s =
-    let t : State = handle app handler s in
+    let t : State = come app handler s in
     come_by s (unless_held preempt t)
-    (keeps_both s t (unless_held preempt t) (keeps-handle app handler s) (keeps-unless_held preempt t keeps-preempt))
+    (keeps_both s t (unless_held preempt t) (keeps-come app handler s) (keeps-unless_held preempt t keeps-preempt))
+
+-- where nothing comes
+nothing_comes : (ticks : ℕ) (s : State) → Comes ticks s s
+nothing_comes ticks s = record {
+  elapsed = omega arith;
+  on = omega arith;
+  steps = refl;
+  tasks = refl;
+  hold = refl;
+  suspensions = refl;
+  sections = refl;
+  pending = refl;
+}
 
 -- one that comes
 pub comes-serve : (app : Application) (source : ℕ) (s : State)
@@ -100,23 +116,15 @@ comes-serve app source s =
 pub comes-inject : (app : Application) (source : ℕ) (s : State)
     → Comes (if is_tick app source then 1 else 0) s (inject app source s)
 unfolding inject
-comes-inject app source s = comes-serve app source s
+comes-inject app source s = by_test (can_come s source)
+    (λ t. rw t (comes-serve app source s))
+    (λ t. rw t (nothing_comes (if is_tick app source then 1 else 0) s))
 
 -- one after another
 module _ (app : Application) (deed : ℕ → State → State)
     (one : (source : ℕ) (s : State) → Comes (if is_tick app source then 1 else 0) s (deed source s)) where
   pub comes-each : (sources : List ℕ) (s : State) → Comes (ticks_in app sources) s (for_each deed sources s)
-  comes-each [] s =
-      record {
-        elapsed = omega arith;
-        on = omega arith;
-        steps = refl;
-        tasks = refl;
-        hold = refl;
-        suspensions = refl;
-        sections = refl;
-        sources = refl;
-      }
+  comes-each [] s = nothing_comes 0 s
   comes-each (source ∷ sources) s =
       let t : State = deed source s in
       come_both (if is_tick app source then 1 else 0) (ticks_in app sources) s t (for_each deed sources t) (one source s)
@@ -124,31 +132,16 @@ module _ (app : Application) (deed : ℕ → State → State)
 
 -- ---- what a step begins with
 
-comes-pend : (sources : List ℕ) (s : State)
-    → Comes 0 (record s { sources = (for_each pend sources s).sources }) (for_each pend sources s)
-comes-pend [] s =
-    record {
-      elapsed = omega arith;
-      on = omega arith;
-      steps = refl;
-      tasks = refl;
-      hold = refl;
-      suspensions = refl;
-      sections = refl;
-      sources = refl;
-    }
-comes-pend (source ∷ sources) s =
-    let k = comes-pend sources (pend source s) in
-    record {
-      elapsed = k.elapsed;
-      on = k.on;
-      steps = k.steps;
-      tasks = k.tasks;
-      hold = k.hold;
-      suspensions = k.suspensions;
-      sections = k.sections;
-      sources = k.sources;
-    }
+only_sources : (app : Application) (source : ℕ) (s : State) → pend app source s ≡ record s { sources = (pend app source s).sources }
+only_sources app source s = by_test (can_come s source) (λ t. rw t refl) (λ t. rw t refl)
+
+comes-pend : (app : Application) (sources : List ℕ) (s : State)
+    → Comes 0 (record s { sources = (for_each (pend app) sources s).sources }) (for_each (pend app) sources s)
+comes-pend app [] s = nothing_comes 0 s
+comes-pend app (source ∷ sources) s =
+    let last : State = for_each (pend app) sources (pend app source s) in
+    subst (λ (t : State). Comes 0 t last) (ap (λ (t : State). record t { sources = last.sources }) (only_sources app source s))
+    (comes-pend app sources (pend app source s))
 
 -- how many ticks may come before a step: those that are pending, and those that are injected
 abbrev pub ticks_before : Application → List ℕ → State → ℕ
@@ -164,7 +157,7 @@ comes-before_step app sources s =
     let served : State = for_each (serve app) (pending_of r) none in
     let t : State = for_each (inject app) sources served in
     by_test (is_critical r)
-    (λ q. rw q (let k = comes-pend sources r in
+    (λ q. rw q (let k = comes-pend app sources r in
     let elapsed = k.elapsed in
     record {
       elapsed = omega arith;
@@ -174,7 +167,7 @@ comes-before_step app sources s =
       hold = k.hold;
       suspensions = k.suspensions;
       sections = k.sections;
-      sources = refl;
+      pending = refl;
     }))
     (λ q. rw q (let k : Comes (ticks_before app sources s) none t =
     come_both (ticks_in app (pending_of s)) (ticks_in app sources) none served t
@@ -188,5 +181,5 @@ comes-before_step app sources s =
       hold = k.hold;
       suspensions = k.suspensions;
       sections = k.sections;
-      sources = refl;
+      pending = refl;
     }))

@@ -2,7 +2,11 @@
 use Rattle.model.specs.declared.value.ValueOp.{ValueOp}
 use Rattle.model.specs.Ops.{calculate, store}
 use Rattle.model.specs.Values.{answer_of, number_of, with_number}
-use Rattle.std.proofs.Common.{max, ◌≡◌, ◌+◌, ◌-◌, ◌||◌, ℕ, Bool, true, eqb, leb, ltb, List, [], ◌∷◌, Option, Some, None, refl, sym}
+use Rattle.std.proofs.Common.{max, ◌≡◌, ◌+◌, ◌-◌, ◌||◌, ◌++◌, ℕ, Bool, true, false, eqb, leb, ltb, List, [], ◌∷◌, Option, Some}
+use Rattle.std.proofs.Common.{None}
+use Rattle.std.proofs.Common.{refl, sym, ap, map, get_or}
+use Rattle.std.proofs.Common.{set as list_set}
+use Rattle.std.specs.Prelude.{if◌then◌else◌}
 use Rattle.std.proofs.Common.{subst, ◌∙◌, length, drop, zero, suc, min}
 use Rattle.std.specs.Option.{option_map}
 use Rattle.std.proofs.Math.ListN.{length-set}
@@ -27,7 +31,8 @@ use Rattle.model.specs.declared.event.End.TheVariants.{HandlerCheck}
 use Rattle.model.specs.Answers.{holds}
 use Rattle.model.specs.Blocks.{jump_from}
 use Rattle.model.specs.Application.{Application, commands_of, op_count, ops_of, interrupts_at, script_of}
-use Rattle.model.specs.State.{State, Task, Object, Progress, Status, Ready, Asleep, Suspended, task_at, status_at, progress_at}
+use Rattle.model.specs.State.{State, Source, no_source, source_at, with_source}
+use Rattle.model.specs.State.{Task, Object, Progress, Status, Ready, Asleep, Suspended, task_at, status_at, progress_at}
 use Rattle.model.specs.State.{call_at, object_at, with_task, with_progress, with_call, with_object, bits_at, with_bits, take_ticket}
 use Rattle.model.specs.State.{for_one, for_each, waits_for_notification, notification_at, with_notification}
 use Rattle.model.specs.Order.{tasks_of, task_of, first}
@@ -38,7 +43,7 @@ use Rattle.model.specs.Waiting.{waiters, awake_status, is_locked, wake_one, wake
 use Rattle.model.specs.Objects.{possible, answer_to, object_after, list_woken, fulfil, attempt}
 use Rattle.model.specs.Calls.{try, do_now}
 use Rattle.model.specs.Ops.{one_if, go_to, moved_to, called, answer, use_up, delay, delay_until, open_loop, next_turn, turn}
-use Rattle.model.specs.Ops.{close_turn, branch, skip_branch, leave_loop, stamp, since, fail}
+use Rattle.model.specs.Ops.{close_turn, branch, skip_branch, leave_loop, stamp, since, fail, do_to_source, control}
 use Rattle.model.specs.declared.call.Condition.{Condition}
 use Rattle.model.specs.Groups.{is_met, bits_without, bits_left, keep_answer, met_by, wake_with_bits, bits_set, set, left_by}
 use Rattle.model.specs.Groups.{clear, answer_bits, wake_all}
@@ -49,13 +54,20 @@ use Rattle.model.specs.Daemon.{item_of, received, take_command, obeyed, clear_by
 use Rattle.model.specs.Mutexes.{set_priority, mutexes_held, raise, inherits, inherit_from, inherit, best_priority, fall_back}
 use Rattle.model.specs.Mutexes.{after_timeout, disinherit, give_mutex, note_inherited}
 use Rattle.model.specs.Invariant.{hold_of, suspension_of}
-use Rattle.model.specs.Handlers.{isr_told, isr, isr_answer, isr_jump, is_failed, isr_each, handle, interrupt}
+use Rattle.model.specs.Handlers.{isr_told, isr, isr_answer, isr_jump, is_failed, isr_each, handle, interrupt, come, note_coming}
+use Rattle.model.specs.Handlers.{free_after, is_raised_for, none_raised_now, raised_now}
+use Rattle.model.specs.declared.source.SourceOp.{SourceOp}
+use Rattle.model.specs.declared.source.SourceOp.TheVariants.{Arm, Disarm, Raise, Cancel}
 use Rattle.model.specs.Step.{before_step}
 use Rattle.model.proofs.Sorting.{by_test}
 use Rattle.soundness.proofs.Settled.{when_held, when_free}
 
+-- of each source, whether it is pending
+abbrev pub pending_in : State → List Bool
+pending_in s = map (λ (x : Source). x.pending) s.sources
+
 -- No time passes, no step is done, there are as many tasks, the same is held and locked, as many `suspend_all` are in force,
--- as many critical sections are open, and what is kept of the interrupt sources stays.
+-- as many critical sections are open, and the same interrupts are pending.
 pub record Keeps (old new : State) : Type 0 where
   pub time : new.time ≡ old.time
   pub elapsed : new.elapsed ≡ old.elapsed
@@ -63,10 +75,10 @@ pub record Keeps (old new : State) : Type 0 where
   pub tasks : length new.tasks ≡ length old.tasks
   pub hold : hold_of new ≡ hold_of old
   pub suspension : suspension_of new ≡ suspension_of old
-  pub sources : new.sources ≡ old.sources
+  pub pending : pending_in new ≡ pending_in old
 
 pub keeps : (s : State) → Keeps s s
-keeps s = record { time = refl; elapsed = refl; steps = refl; tasks = refl; hold = refl; suspension = refl; sources = refl }
+keeps s = record { time = refl; elapsed = refl; steps = refl; tasks = refl; hold = refl; suspension = refl; pending = refl }
 
 -- one deed, and then another
 pub keeps_both : (a b c : State) → Keeps a b → Keeps b c → Keeps a c
@@ -78,7 +90,7 @@ keeps_both a b c h k =
       tasks = k.tasks ∙ h.tasks;
       hold = k.hold ∙ h.hold;
       suspension = k.suspension ∙ h.suspension;
-      sources = k.sources ∙ h.sources;
+      pending = k.pending ∙ h.pending;
     }
 
 -- ---- who runs
@@ -92,8 +104,7 @@ keeps-with_task i t s =
       tasks = length-set s.tasks i t;
       hold = refl;
       suspension = refl;
-      sources =
-          refl;
+      pending = refl;
     }
 
 pub keeps-take_ticket : (i : ℕ) (f : ℕ → Status) (s : State) → Keeps s (take_ticket i f s)
@@ -105,7 +116,7 @@ keeps-take_ticket i f s =
       tasks = length-set s.tasks i (record (task_at s i) { status = f s.next_ticket });
       hold = refl;
       suspension = refl;
-      sources = refl;
+      pending = refl;
     }
 
 pub keeps-to_back : (i : ℕ) (s : State) → Keeps s (to_back i s)
@@ -120,7 +131,7 @@ pub keeps-choose : (s : State) → Keeps s (choose s)
 unfolding choose dispatch
 keeps-choose s =
     by_test (is_same (choice s) s.current) (λ t. rw t (keeps s))
-    (λ t. rw t (record { time = refl; elapsed = refl; steps = refl; tasks = refl; hold = refl; suspension = refl; sources = refl }))
+    (λ t. rw t (record { time = refl; elapsed = refl; steps = refl; tasks = refl; hold = refl; suspension = refl; pending = refl }))
 
 pub keeps-yield_now : (s : State) → Keeps s (yield_now s)
 unfolding yield_now
@@ -180,7 +191,7 @@ keeps-answer app i a s =
       hold = k.hold;
       suspension =
           k.suspension;
-      sources = k.sources;
+      pending = k.pending;
     }
 
 pub keeps-use_up : (app : Application) (i n : ℕ) (s : State) → Keeps s (use_up app i n s)
@@ -299,7 +310,7 @@ keeps-fulfil caller o a s =
       hold = k.hold;
       suspension =
           k.suspension;
-      sources = k.sources;
+      pending = k.pending;
     }
 
 pub keeps-attempt : (caller : Option ℕ) (o : ℕ) (a : Access ℕ) (s : State) → Keeps s (attempt caller o a s)
@@ -366,7 +377,7 @@ keeps-with_object o x s = record {
   hold = refl;
   suspension =
       refl;
-  sources = refl;
+  pending = refl;
 }
 
 pub keeps-give_mutex : (app : Application) (i o : ℕ) (s : State) → Keeps s (give_mutex app i o s)
@@ -417,7 +428,7 @@ keeps-with_bits group bits s = record {
   hold = refl;
   suspension =
       refl;
-  sources = refl;
+  pending = refl;
 }
 
 keeps-wake_with_bits : (bits i : ℕ) (s : State) → Keeps s (wake_with_bits i bits s)
@@ -491,7 +502,7 @@ keeps-call_resume app i other s =
 
 pub keeps-with_notification : (i : ℕ) (n : Notification) (s : State) → Keeps s (with_notification i n s)
 keeps-with_notification i n s =
-    record { time = refl; elapsed = refl; steps = refl; tasks = refl; hold = refl; suspension = refl; sources = refl }
+    record { time = refl; elapsed = refl; steps = refl; tasks = refl; hold = refl; suspension = refl; pending = refl }
 
 pub keeps-wake_notified : (i : ℕ) (s : State) → Keeps s (wake_notified i s)
 keeps-wake_notified i s = by_test (waits_for_notification (status_at s i))
@@ -559,7 +570,7 @@ keeps-obeyed app i clear bits s =
       hold = k.hold;
       suspension =
           k.suspension;
-      sources = k.sources;
+      pending = k.pending;
     }
 
 pub keeps-clear_by_daemon : (app : Application) (i group mask : ℕ) (s : State) → Keeps s (clear_by_daemon app i group mask s)
@@ -580,7 +591,7 @@ keeps-store op a s = record {
   tasks = refl;
   hold = refl;
   suspension = refl;
-  sources = refl;
+  pending = refl;
 }
 
 pub keeps-calculate : (app : Application) (i : ℕ) (op : ValueOp) (s : State) → Keeps s (calculate app i op s)
@@ -589,10 +600,67 @@ keeps-calculate app i op s =
     let a : Option ℕ = answer_of s.variables (progress_at s i).answer op in
     keeps_both s (store op a s) (calculate app i op s) (keeps-store op a s) (keeps-answer app i a (store op a s))
 
+-- ---- interrupt sources
+
+pending_set : (xs : List Source) (i : ℕ) (x : Source) → x.pending ≡ (get_or xs i no_source).pending
+    → map (λ (y : Source). y.pending) (list_set xs i x) ≡ map (λ (y : Source). y.pending) xs
+pending_set [] i x same = refl
+pending_set (y ∷ ys) zero x same = ap (λ (b : Bool). b ∷ map (λ (z : Source). z.pending) ys) same
+pending_set (y ∷ ys) (suc i) x same = ap (λ (bs : List Bool). y.pending ∷ bs) (pending_set ys i x same)
+
+-- A source that is as pending as it was is put in its place.
+pub keeps-with_source : (i : ℕ) (x : Source) (s : State) → x.pending ≡ (source_at s i).pending → Keeps s (with_source i x s)
+keeps-with_source i x s same = record {
+  time = refl;
+  elapsed = refl;
+  steps = refl;
+  tasks = refl;
+  hold = refl;
+  suspension = refl;
+  pending = pending_set s.sources i x same;
+}
+
+pub keeps-do_to_source : (handler : ℕ) (op : SourceOp) (s : State) → Keeps s (do_to_source handler op s)
+keeps-do_to_source handler Arm s = keeps-with_source handler (record (source_at s handler) { armed = true }) s refl
+keeps-do_to_source handler Disarm s = keeps-with_source handler (record (source_at s handler) { armed = false }) s refl
+keeps-do_to_source handler (Raise ticks) s =
+    keeps-with_source handler (record (source_at s handler) { raised = Some (s.elapsed + ticks) }) s refl
+keeps-do_to_source handler Cancel s = keeps-with_source handler (record (source_at s handler) { raised = None }) s refl
+
+pub keeps-control : (app : Application) (i handler : ℕ) (op : SourceOp) (s : State) → Keeps s (control app i handler op s)
+unfolding control
+keeps-control app i handler op s =
+    let t : State = do_to_source handler op s in
+    keeps_both s t (control app i handler op s) (keeps-do_to_source handler op s)
+    (keeps-go_to app i ((progress_at s i).op_index + 1) (progress_at s i) t)
+
+pub keeps-note_coming : (app : Application) (handler : ℕ) (s : State) → Keeps s (note_coming app handler s)
+keeps-note_coming app handler s =
+    keeps-with_source handler (record (source_at s handler) { free_from = free_after app handler s }) s refl
+
+pending_lowered : (tick : ℕ) (xs : List Source)
+    → map (λ (x : Source). x.pending) (map (λ (x : Source). if is_raised_for tick x then record x { raised = None } else x) xs)
+    ≡ map (λ (x : Source). x.pending) xs
+pending_lowered tick [] = refl
+pending_lowered tick (x ∷ xs) = by_test (is_raised_for tick x)
+    (λ t. rw t (ap (λ (bs : List Bool). x.pending ∷ bs) (pending_lowered tick xs)))
+    (λ t. rw t (ap (λ (bs : List Bool). x.pending ∷ bs) (pending_lowered tick xs)))
+
+pub keeps-none_raised_now : (s : State) → Keeps s (none_raised_now s)
+keeps-none_raised_now s = record {
+  time = refl;
+  elapsed = refl;
+  steps = refl;
+  tasks = refl;
+  hold = refl;
+  suspension = refl;
+  pending = pending_lowered s.elapsed s.sources;
+}
+
 -- ---- handlers
 
 pub keeps-write : (w : What) (s : State) → Keeps s (write w s)
-keeps-write w s = record { time = refl; elapsed = refl; steps = refl; tasks = refl; hold = refl; suspension = refl; sources = refl }
+keeps-write w s = record { time = refl; elapsed = refl; steps = refl; tasks = refl; hold = refl; suspension = refl; pending = refl }
 
 pub keeps-isr : (app : Application) (handler op_index : ℕ) (op : IsrOp) (answer : Option ℕ) (s : State)
     → Keeps s (isr app handler op_index op answer s)
@@ -621,6 +689,7 @@ keeps-isr app handler op_index (isr_op.Value op) last s =
     let a : Option ℕ = answer_of s.variables last op in
     let w : What = isr_told handler op_index a in
     keeps_both s (store op a s) (write w (store op a s)) (keeps-store op a s) (keeps-write w (store op a s))
+keeps-isr app handler op_index (isr_op.Source other op) last s = keeps-do_to_source other op s
 keeps-isr app handler op_index (isr_op.Mark value) last s =
     keeps-write (what.IsrMark handler (number_of s.variables last value)) s
 keeps-isr app handler op_index (isr_op.Expect condition) last s = keeps s
@@ -636,8 +705,7 @@ keeps-fail check s = record {
   tasks = refl;
   hold = refl;
   suspension = refl;
-  sources =
-      refl;
+  pending = refl;
 }
 
 keeps-isr_each : (app : Application) (handler op_index over : ℕ) (answer : Option ℕ) (ops : List IsrOp) (s : State)
@@ -658,6 +726,16 @@ pub keeps-handle : (app : Application) (handler : ℕ) (s : State) → Keeps s (
 unfolding handle
 keeps-handle app handler s = keeps-isr_each app handler 0 0 None (ops_of app handler) s
 
+pub keeps-come : (app : Application) (handler : ℕ) (s : State) → Keeps s (come app handler s)
+unfolding come
+keeps-come app handler s =
+    let noted : State = note_coming app handler s in
+    keeps_both s noted (handle app handler noted) (keeps-note_coming app handler s) (keeps-handle app handler noted)
+
 pub keeps-interrupt : (app : Application) (s : State) → Keeps s (interrupt app s)
 unfolding interrupt
-keeps-interrupt app s = keeps-each (handle app) (keeps-handle app) (interrupts_at app s.elapsed) s
+keeps-interrupt app s =
+    let lowered : State = none_raised_now s in
+    let all : List ℕ = interrupts_at app s.elapsed ++ raised_now s in
+    keeps_both s lowered (for_each (come app) all lowered) (keeps-none_raised_now s)
+    (keeps-each (come app) (keeps-come app) all lowered)

@@ -1,11 +1,12 @@
 -- While a task holds the scheduler it goes on, also when its script is done.
+use Rattle.model.specs.declared.op.Op.TheVariants as op
 use Rattle.model.specs.declared.op.Op.TheVariants.{Value}
 use Rattle.model.specs.declared.value.ValueOp.{ValueOp}
-use Rattle.model.specs.Ops.{calculate, store}
+use Rattle.model.specs.Ops.{calculate, store, control, do_to_source}
 use Rattle.model.specs.Values.{answer_of, number_of}
 use Rattle.std.proofs.Common.{◌≡◌, ◌<◌, ◌+◌, ◌-◌, ◌||◌, ◌⊎◌, inl, inr, ℕ, Bool, true, false, eqb, leb, List}
 use Rattle.std.proofs.Common.{[], ◌∷◌, length, Option, Some, None, refl, ap, sym, subst, ◌∙◌, arith, get_or-set_same}
-use Rattle.std.proofs.Common.{drop}
+use Rattle.std.proofs.Common.{drop, ◌++◌}
 use Rattle.std.specs.Option.{is_some}
 use Rattle.std.proofs.lemmas.Option.{slice_get_past}
 use Rattle.model.specs.declared.op.Op.{Op}
@@ -33,7 +34,9 @@ use Rattle.model.specs.Ops.{leave_loop, stamp, since, with_sections}
 use Rattle.model.specs.Groups.{bits_without, clear}
 use Rattle.model.specs.Notifications.{clear_answer, cleared, clear_notification}
 use Rattle.model.specs.Suspension.{suspend_all, resume_scheduler, resume_all}
-use Rattle.model.specs.Handlers.{handle, interrupt, tick_interrupt}
+use Rattle.model.specs.Handlers.{come, interrupt, raised_now, none_raised_now, tick_interrupt}
+use Rattle.model.specs.declared.source.SourceOp.{SourceOp}
+use Rattle.model.specs.declared.source.SourceOp.TheVariants.{Arm, Disarm, Raise, Cancel}
 use Rattle.model.specs.Step.{act, may_switch}
 use Rattle.model.proofs.Sorting.{by_test}
 use Rattle.model.proofs.Lists.{eqb-same}
@@ -41,7 +44,7 @@ use Rattle.soundness.proofs.Frames.{keeps-answer}
 use Rattle.soundness.proofs.Settled.{when_held, held_as_it_was, held_by_task, ticks_held_by_task}
 use Rattle.soundness.proofs.Passing.{is_instant, held-told}
 use Rattle.soundness.proofs.Released.{applied_apart, current-applied}
-use Rattle.soundness.proofs.Handled.{Spares, spares, spares_both, spares-handle}
+use Rattle.soundness.proofs.Handled.{Spares, spares, spares_both, spares-come, spares-none_raised_now}
 
 pub suspended_held : (s : State) → is_scheduler_suspended s ≡ true → is_held_by_task s ≡ true
 suspended_held s on = either (is_scheduler_suspended s) (is_critical s) on where
@@ -91,15 +94,18 @@ module _ (app : Application) (i : ℕ) where
 
   -- ---- a tick that is held
 
-  spares-each : (handlers : List ℕ) (s : State) → Spares s (for_each (handle app) handlers s)
+  spares-each : (handlers : List ℕ) (s : State) → Spares s (for_each (come app) handlers s)
   spares-each [] s = spares s
   spares-each (handler ∷ handlers) s =
-      let t : State = handle app handler s in
-      spares_both s t (for_each (handle app) handlers t) (spares-handle app handler s) (spares-each handlers t)
+      let t : State = come app handler s in
+      spares_both s t (for_each (come app) handlers t) (spares-come app handler s) (spares-each handlers t)
 
   pub spares-interrupt : (s : State) → Spares s (interrupt app s)
   unfolding interrupt
-  spares-interrupt s = spares-each (interrupts_at app s.elapsed) s
+  spares-interrupt s =
+      let all : List ℕ = interrupts_at app s.elapsed ++ raised_now s in
+      spares_both s (none_raised_now s) (for_each (come app) all (none_raised_now s))
+      (spares-none_raised_now s) (spares-each all (none_raised_now s))
 
   spared_on : (s t : State) → Spares s t → GoesOn app i (task_at s i) → GoesOn app i (task_at t i)
   spared_on s t sp g = elim g [
@@ -203,6 +209,21 @@ module _ (app : Application) (i : ℕ) where
       let k = answering_on a (store op a s) l r in
       record { current = k.current; goes = k.goes }
 
+  controlled_on : (handler : ℕ) (what : SourceOp) (s : State) → i < length s.tasks → is_ready s i ≡ true
+      → Continues app i s (control app i handler what s)
+  unfolding control
+  controlled_on handler what s l r = by_what what where
+    by_what : (what : SourceOp)
+        → Continues app i s (go_to app i ((progress_at s i).op_index + 1) (progress_at s i) (do_to_source handler what s))
+    by_what Arm = (let k = gone_to ((progress_at s i).op_index + 1) (progress_at s i) (do_to_source handler Arm s) l r in
+        record { current = k.current; goes = k.goes })
+    by_what Disarm = (let k = gone_to ((progress_at s i).op_index + 1) (progress_at s i) (do_to_source handler Disarm s) l r in
+        record { current = k.current; goes = k.goes })
+    by_what (Raise n) = (let k = gone_to ((progress_at s i).op_index + 1) (progress_at s i) (do_to_source handler (Raise n) s) l r
+        in record { current = k.current; goes = k.goes })
+    by_what Cancel = (let k = gone_to ((progress_at s i).op_index + 1) (progress_at s i) (do_to_source handler Cancel s) l r in
+        record { current = k.current; goes = k.goes })
+
   cleared_on : (group mask : ℕ) (s : State) → i < length s.tasks
       → is_ready s i ≡ true → Continues app i s (clear app i group mask s)
   unfolding clear
@@ -252,6 +273,7 @@ module _ (app : Application) (i : ℕ) where
   acted_on Stamp s q t l r = stamped_on s l r
   acted_on Since s q t l r = since_on s l r
   acted_on (Value op) s q t l r = calculated_on op s l r
+  acted_on (op.Source j what) s q t l r = controlled_on j what s l r
   acted_on (Await o a ticks) s q t l r = absurd (cc)
   acted_on (Do o a) s q t l r = absurd (cc)
   acted_on (GiveMutex o) s q t l r = absurd (cc)

@@ -1,15 +1,20 @@
 -- What a handler keeps of a state, and what it spares.
+use Rattle.model.specs.declared.op.Op.TheVariants as op
 use Rattle.model.specs.declared.op.Op.TheVariants.{Value}
 use Rattle.model.specs.declared.value.ValueOp.{ValueOp}
-use Rattle.model.specs.Ops.{store}
+use Rattle.model.specs.Ops.{store, do_to_source}
 use Rattle.model.specs.Values.{answer_of, number_of, stored, with_number}
-use Rattle.soundness.proofs.Sound.{revalued}
-use Rattle.soundness.proofs.Frames.{keeps-store}
+use Rattle.soundness.proofs.Sound.{revalued, resourced, with_source_sound, done_to_source}
+use Rattle.soundness.proofs.Frames.{keeps-store, keeps-with_source, keeps-come, keeps-none_raised_now}
 use Rattle.model.specs.declared.value.Value as value
 use Rattle.std.proofs.Common.{◌⊎◌, ◌≡◌, ◌<◌, ◌+◌, ◌&&◌, ◌||◌, ℕ, Bool, true, false, ltb, inl, inr, get_or, set, List, [], ◌∷◌}
 use Rattle.std.proofs.Common.{Option, Some, None, refl, ap, sym, subst, ◌∙◌, suc, zero, ◌≢◌, get_or-set_other}
-use Rattle.std.specs.List.{AllByRecursion, slice_get}
-use Rattle.std.specs.Option.{IfSome, is_some, option_map, unwrap_or}
+use Rattle.std.specs.List.{AllByRecursion, slice_get, filter, range_with_len}
+use Rattle.std.specs.Prelude.{if◌then◌else◌}
+use Rattle.std.proofs.Common.{◌++◌, length, map, eqb}
+use Rattle.std.proofs.Common.{set as list_set}
+use Rattle.std.proofs.Math.ListN.{length-map}
+use Rattle.std.specs.Option.{IfSome, is_some, option_eq, option_map, unwrap_or}
 use Rattle.model.specs.declared.object.ObjectKind.{ObjectKind}
 use Rattle.model.specs.declared.object.ObjectKind.TheVariants.{Queue, Semaphore, Mutex}
 use Rattle.model.specs.declared.op.Op.{Op}
@@ -36,6 +41,7 @@ use Rattle.model.specs.Daemon.{item_of}
 use Rattle.model.specs.State.{State, Task, Progress, Object, Status, Wait, Ready, Awake, Waiting, Asleep, WaitingForBits}
 use Rattle.model.specs.State.{WaitingForNotification, Suspended, Ended, ticket_if_ready, wake_time_of, task_at, status_at}
 use Rattle.model.specs.State.{progress_at, call_at, object_at, bits_at, with_object, with_progress, for_one, for_each, no_task}
+use Rattle.model.specs.State.{Source, no_source, source_at, with_source}
 use Rattle.model.specs.State.{waits_for_notification, notification_at, with_notification}
 use Rattle.model.specs.Order.{Entry, first, task_of}
 use Rattle.model.specs.Ops.{one_if, fail}
@@ -48,9 +54,11 @@ use Rattle.model.specs.Objects.{possible, answer_to, object_after, list_woken, l
 use Rattle.model.specs.declared.event.End.{End as RunEnd}
 use Rattle.model.specs.declared.event.End.TheVariants.{HandlerCheck}
 use Rattle.model.specs.Handlers.{isr_told, isr, isr_answer, isr_jump, is_failed, isr_each, handle, interrupt, tick_interrupt, idle}
-use Rattle.model.specs.Handlers.{ticks_ahead}
+use Rattle.model.specs.Handlers.{ticks_ahead, come, note_coming, free_after, is_raised_for, raised_now, none_raised_now}
+use Rattle.model.specs.declared.source.SourceOp.{SourceOp}
+use Rattle.model.specs.declared.source.SourceOp.TheVariants.{Arm, Disarm, Raise, Cancel}
 use Rattle.model.specs.Invariant.{Hold, hold_of, course, list_of_op, IsPhaseOf, IsWaitOf, IsSound, Suspension, holds, IsPlacing}
-use Rattle.model.specs.Invariant.{IsStranded, RunsIn, IsState, wait_of}
+use Rattle.model.specs.Invariant.{IsNoneRaised, IsStranded, RunsIn, IsState, wait_of}
 use Rattle.model.proofs.Sorting.{by_test}
 use Rattle.model.proofs.Lists.{HasKey, list_has}
 use Rattle.model.proofs.Tables.{each-set}
@@ -170,6 +178,7 @@ module _ (app : Application) (formed : IsWellFormed app) (hold : Hold) where
       let a : Option ℕ = answer_of s.variables last op in
       let t : State = store op a s in
       logged app formed hold t _ t.steps t.stopped (revalued app formed hold s (stored op a s.variables) h)
+  isr_done s handler op_index (isr_op.Source other op) last known h same = done_to_source app formed hold other op s h
   isr_done s handler op_index (isr_op.Mark value) last known h same = logged app formed hold s _ s.steps s.stopped h
   isr_done s handler op_index (isr_op.Expect condition) last known h same = h
   isr_done s handler op_index (isr_op.If condition) last known h same = h
@@ -195,16 +204,26 @@ module _ (app : Application) (formed : IsWellFormed app) (hold : Hold) where
   unfolding handle
   handled s handler h same = each_done (ops_of app handler) s handler 0 0 None (isr_known app formed handler) h same
 
-  all_handled : (handlers : List ℕ) (s : State) → IsSound app hold s
-      → s.locked ≡ hold.locked → IsSound app hold (for_each (handle app) handlers s)
-  all_handled [] s h same = h
-  all_handled (handler ∷ handlers) s h same =
-      all_handled handlers (handle app handler s) (handled s handler h same)
-      (ap (λ (x : Hold). x.locked) (keeps-handle app handler s).hold ∙ same)
+  pub come_sound : (s : State) (handler : ℕ) → IsSound app hold s → s.locked ≡ hold.locked → IsSound app hold (come app handler s)
+  unfolding come
+  come_sound s handler h same =
+      handled (note_coming app handler s) handler (with_source_sound app formed hold handler
+      (record (source_at s handler) { free_from = free_after app handler s }) s h) same
+
+  all_come : (handlers : List ℕ) (s : State) → IsSound app hold s
+      → s.locked ≡ hold.locked → IsSound app hold (for_each (come app) handlers s)
+  all_come [] s h same = h
+  all_come (handler ∷ handlers) s h same =
+      all_come handlers (come app handler s) (come_sound s handler h same)
+      (ap (λ (x : Hold). x.locked) (keeps-come app handler s).hold ∙ same)
 
   interrupted : (s : State) → IsSound app hold s → s.locked ≡ hold.locked → IsSound app hold (interrupt app s)
   unfolding interrupt
-  interrupted s h same = all_handled (interrupts_at app s.elapsed) s h same
+  interrupted s h same =
+      let lowered : State = none_raised_now s in
+      let many : length lowered.sources ≡ length app.handlers + 1 =
+      length-map s.sources (λ (x : Source). if is_raised_for s.elapsed x then record x { raised = None } else x) ∙ h.sources in
+      all_come (interrupts_at app s.elapsed ++ raised_now s) lowered (resourced app formed hold s lowered.sources many h) same
 
   incremented : (s : State) → IsSound app hold s → IsSound app hold (increment_tick s)
   unfolding increment_tick advance
@@ -564,6 +583,36 @@ spares-store op a s =
       sleeps = k.sleeps;
     }
 
+-- a deed on the sources alone
+resourced_spares : (s : State) (xs : List Source) → Keeps s (record s { sources = xs }) → Spares s (record s { sources = xs })
+resourced_spares s xs kept =
+    let k = spares s in
+    record {
+      kept = kept;
+      current = k.current;
+      op_index = k.op_index;
+      holding = k.holding;
+      place = k.place;
+      unsuspended = k.unsuspended;
+      at = k.at;
+      ready = k.ready;
+      waits = k.waits;
+      sleeps = k.sleeps;
+    }
+
+spares-with_source : (i : ℕ) (x : Source) (s : State) → x.pending ≡ (source_at s i).pending → Spares s (with_source i x s)
+spares-with_source i x s same = resourced_spares s (list_set s.sources i x) (keeps-with_source i x s same)
+
+spares-do_to_source : (handler : ℕ) (op : SourceOp) (s : State) → Spares s (do_to_source handler op s)
+spares-do_to_source handler Arm s = spares-with_source handler (record (source_at s handler) { armed = true }) s refl
+spares-do_to_source handler Disarm s = spares-with_source handler (record (source_at s handler) { armed = false }) s refl
+spares-do_to_source handler (Raise ticks) s =
+    spares-with_source handler (record (source_at s handler) { raised = Some (s.elapsed + ticks) }) s refl
+spares-do_to_source handler Cancel s = spares-with_source handler (record (source_at s handler) { raised = None }) s refl
+
+pub spares-none_raised_now : (s : State) → Spares s (none_raised_now s)
+spares-none_raised_now s = resourced_spares s (none_raised_now s).sources (keeps-none_raised_now s)
+
 spares-isr : (app : Application) (handler op_index : ℕ) (op : IsrOp) (last : Option ℕ) (s : State)
     → Spares s (isr app handler op_index op last s)
 spares-isr app handler op_index (isr_op.Do o a) last s =
@@ -591,6 +640,7 @@ spares-isr app handler op_index (isr_op.Value op) last s =
     let a : Option ℕ = answer_of s.variables last op in
     let w : What = isr_told handler op_index a in
     spares_both s (store op a s) (write w (store op a s)) (spares-store op a s) (spares-write w (store op a s))
+spares-isr app handler op_index (isr_op.Source other op) last s = spares-do_to_source other op s
 spares-isr app handler op_index (isr_op.Mark value) last s =
     spares-write (what.IsrMark handler (number_of s.variables last value)) s
 spares-isr app handler op_index (isr_op.Expect condition) last s = spares s
@@ -632,6 +682,14 @@ pub spares-handle : (app : Application) (handler : ℕ) (s : State) → Spares s
 unfolding handle
 spares-handle app handler s = spares-isr_each app handler 0 0 None (ops_of app handler) s
 
+pub spares-come : (app : Application) (handler : ℕ) (s : State) → Spares s (come app handler s)
+unfolding come
+spares-come app handler s =
+    let noted : State = note_coming app handler s in
+    spares_both s noted (handle app handler noted)
+    (spares-with_source handler (record (source_at s handler) { free_from = free_after app handler s }) s refl)
+    (spares-handle app handler noted)
+
 -- ---- so every state stays one of a run
 
 -- who is to be placed waits for the locked object
@@ -643,6 +701,7 @@ place_locked hold (Some (Await o a ticks)) list p e =
     let P : Option ℕ → WaitList → Type 0 = λ l x. is_locked l x ≡ true in
     subst (P hold.locked) same (subst (λ l. P l (list_for o a)) (sym p.1) (is_locked-own o a))
 place_locked hold (Some (Value op)) list p e = absurd p
+place_locked hold (Some (op.Source j what)) list p e = absurd p
 place_locked hold (Some (Work n)) list p e = absurd p
 place_locked hold (Some (Delay n)) list p e = absurd p
 place_locked hold (Some (DelayUntil n)) list p e = absurd p
@@ -750,15 +809,53 @@ module _ (app : Application) (formed : IsWellFormed app) (s t : State)
     held = λ off. ap (λ (x : Suspension). x.held_ticks) sp.kept.suspension ∙ h.held (sym same_ticks ∙ off);
   }
 
+-- None is raised for this tick any more.
+pub lowered_between : (app : Application) → IsWellFormed app → (s : State) → IsState app s → IsState app (none_raised_now s)
+lowered_between app formed s h =
+    let many : length (none_raised_now s).sources ≡ length app.handlers + 1 =
+    length-map s.sources (λ (x : Source). if is_raised_for s.elapsed x then record x { raised = None } else x)
+    ∙ h.sound.sources in
+    state_still app formed s (none_raised_now s) h (resourced app formed (hold_of s) s (none_raised_now s).sources many h.sound)
+    (spares-none_raised_now s)
+
 -- a handler that comes between two steps
-pub handled_between : (app : Application) → IsWellFormed app
-    → (handler : ℕ) (s : State) → IsState app s → IsState app (handle app handler s)
-handled_between app formed handler s h =
-    state_still app formed s (handle app handler s) h
-    (handled app formed (hold_of s) s handler h.sound refl) (spares-handle app handler s)
+pub come_between : (app : Application) → IsWellFormed app
+    → (handler : ℕ) (s : State) → IsState app s → IsState app (come app handler s)
+come_between app formed handler s h =
+    state_still app formed s (come app handler s) h
+    (come_sound app formed (hold_of s) s handler h.sound refl) (spares-come app handler s)
 
 -- ---- without base interrupts
 
-pub uninterrupted : (app : Application) → app.interrupts ≡ [] → (s : State) → interrupt app s ≡ s
+none_raised_for : (tick : ℕ) (xs : List Source) → AllByRecursion (λ (x : Source). x.raised ≡ None) xs
+    → map (λ (x : Source). if is_raised_for tick x then record x { raised = None } else x) xs ≡ xs
+none_raised_for tick [] h = refl
+none_raised_for tick (x ∷ xs) h =
+    let none : is_raised_for tick x ≡ false = ap (λ (o : Option ℕ). option_eq eqb o (Some tick)) h.0 in
+    rw none (ap (λ (ys : List Source). x ∷ ys) (none_raised_for tick xs h.1))
+
+not_raised : (xs : List Source) (i : ℕ) → AllByRecursion (λ (x : Source). x.raised ≡ None) xs
+    → (get_or xs i no_source).raised ≡ None
+not_raised [] i h = refl
+not_raised (x ∷ xs) zero h = h.0
+not_raised (x ∷ xs) (suc i) h = not_raised xs i h.1
+
+none_chosen : (p : ℕ → Bool) (a n : ℕ) → ((i : ℕ) → p i ≡ false) → filter p (range_with_len a n) ≡ []
+none_chosen p a zero none = refl
+none_chosen p a (suc n) none = rw (none a) (none_chosen p (a + 1) n none)
+
+-- If no handler is raised, none comes by itself, and none is lowered.
+pub nobody_raised : (s : State) → IsNoneRaised s → (raised_now s ≡ []) × (none_raised_now s ≡ s)
+nobody_raised s h = (
+  none_chosen (λ source. is_raised_for s.elapsed (source_at s source)) 0 (length s.sources)
+      (λ i. ap (λ (o : Option ℕ). option_eq eqb o (Some s.elapsed)) (not_raised s.sources i h)),
+  ap (λ (xs : List Source). record s { sources = xs }) (none_raised_for s.elapsed s.sources h),
+)
+
+pub uninterrupted : (app : Application) → app.interrupts ≡ [] → (s : State) → IsNoneRaised s → interrupt app s ≡ s
 unfolding interrupt
-uninterrupted app none s = rw none refl
+uninterrupted app none s h =
+    let nobody = nobody_raised s h in
+    let at_none : interrupts_at app s.elapsed ≡ [] = rw none refl in
+    ap (λ (all : List ℕ). for_each (come app) (all ++ raised_now s) (none_raised_now s)) at_none
+    ∙ ap (λ (all : List ℕ). for_each (come app) all (none_raised_now s)) nobody.0 ∙ nobody.1

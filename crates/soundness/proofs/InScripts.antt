@@ -1,4 +1,5 @@
 -- The op at an index of a well formed script.
+use Rattle.model.specs.declared.op.Op.TheVariants as op
 use Rattle.model.specs.declared.op.Op.TheVariants.{Value}
 use Rattle.std.proofs.Common.{◌≡◌, ◌≢◌, ◌<◌, ◌≤◌, ◌+◌, ◌-◌, ℕ, zero, suc, true, eqb, ltb, List, [], ◌∷◌, drop, take, length, Option}
 use Rattle.std.proofs.Common.{Some, None, refl, ap, sym, subst, ◌∙◌, arith, add-one}
@@ -157,6 +158,7 @@ used_none zero (ResumeAll ∷ ops) h = tt
 used_none zero (EnterCritical ∷ ops) h = tt
 used_none zero (ExitCritical ∷ ops) h = tt
 used_none zero ((Value op) ∷ ops) h = tt
+used_none zero ((op.Source handler what) ∷ ops) h = tt
 used_none zero ((NextCommand o) ∷ ops) h = tt
 used_none zero (Obey ∷ ops) h = tt
 used_none (suc p) (o ∷ ops) h = used_none p ops h.1
@@ -222,6 +224,7 @@ known_if app i p ResumeAll e = e
 known_if app i p EnterCritical e = e
 known_if app i p ExitCritical e = e
 known_if app i p (Value op) e = e
+known_if app i p (op.Source handler what) e = e
 known_if app i p (NextCommand o) e = absurd (cc)
 known_if app i p Obey e = absurd (cc)
 

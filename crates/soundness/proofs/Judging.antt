@@ -1,4 +1,5 @@
 -- When an op is a misuse, and when the end of a script is: only while a task holds the scheduler, or by the op itself.
+use Rattle.model.specs.declared.op.Op.TheVariants as op
 use Rattle.model.specs.declared.op.Op.TheVariants.{Value}
 use Rattle.soundness.proofs.Passing.{by_value}
 use Rattle.std.proofs.Common.{ap₂, Bool, ap, ◌≡◌, ◌||◌, ◌&&◌, ℕ, true, false, ltb}
@@ -124,6 +125,7 @@ switching_barred Break t = absurd (cc)
 switching_barred Stamp t = absurd (cc)
 switching_barred Since t = absurd (cc)
 switching_barred (Value op) t = absurd (cc)
+switching_barred (op.Source j what) t = absurd (cc)
 switching_barred (Await o a ticks) t = refl
 switching_barred (Do o a) t = refl
 switching_barred (GiveMutex o) t = refl

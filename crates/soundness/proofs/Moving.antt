@@ -12,10 +12,11 @@ use Rattle.model.specs.Step.{judge, act_by_value, act_unless, misuse, act_if}
 use Rattle.model.specs.Step.{act_current, before_step, step, reset}
 use Rattle.model.specs.Step.{nobody_ready, ready_at_reset, with_ops}
 use Rattle.model.specs.Invariant.{Suspension, suspension_of}
+use Rattle.soundness.proofs.Frames.{pending_in}
 use Rattle.soundness.proofs.Frames.{keeps-settle, keeps-unless_held, keeps-all_ready}
 use Rattle.soundness.proofs.Coming.{comes-before_step, ticks_before}
-use Rattle.soundness.proofs.Passing.{elapsed-act, elapsed-idle, most-idle, sections-idle, sources-act}
-use Rattle.soundness.proofs.Passing.{sources-idle, suspensions-act, suspensions-idle, task_holds, task_holds-act, task_holds_by}
+use Rattle.soundness.proofs.Passing.{elapsed-act, elapsed-idle, most-idle, sections-idle, pending-act}
+use Rattle.soundness.proofs.Passing.{pending-idle, suspensions-act, suspensions-idle, task_holds, task_holds-act, task_holds_by}
 use Rattle.soundness.proofs.Judging.{judged}
 
 -- ---- an op, or idle
@@ -81,21 +82,21 @@ moves-act_current app limits None s =
 moves-act_current app limits (Some i) s = moves-act_if app limits i (op_at app i (progress_at s i).op_index) s
 
 -- what is kept of the interrupt sources stays
-sources-act_unless : (app : Application) (i : ℕ) (kind : Option Misuse) (op : Op) (s : State)
-    → (act_unless app i kind op s).sources ≡ s.sources
-sources-act_unless app i None op s =
-    (judged i (progress_at s i).op_index (act_by_value app i op s)).lasts.sources
-    ∙ by_value (λ t. t.sources ≡ s.sources) app i op s refl (sources-act app i op s)
-sources-act_unless app i (Some kind) op s = refl
+pending-act_unless : (app : Application) (i : ℕ) (kind : Option Misuse) (op : Op) (s : State)
+    → pending_in (act_unless app i kind op s) ≡ pending_in s
+pending-act_unless app i None op s =
+    (judged i (progress_at s i).op_index (act_by_value app i op s)).lasts.pending
+    ∙ by_value (λ t. pending_in t ≡ pending_in s) app i op s refl (pending-act app i op s)
+pending-act_unless app i (Some kind) op s = refl
 
-sources-act_if : (app : Application) (i : ℕ) (o : Option Op) (s : State) → (act_if app i o s).sources ≡ s.sources
-sources-act_if app i None s = refl
-sources-act_if app i (Some op) s = sources-act_unless app i (misuse s i op) op s
+pending-act_if : (app : Application) (i : ℕ) (o : Option Op) (s : State) → pending_in (act_if app i o s) ≡ pending_in s
+pending-act_if app i None s = refl
+pending-act_if app i (Some op) s = pending-act_unless app i (misuse s i op) op s
 
-pub sources-act_current : (app : Application) (limits : Limits) (r : Option ℕ) (s : State)
-    → (act_current app limits r s).sources ≡ s.sources
-sources-act_current app limits None s = sources-idle app limits s
-sources-act_current app limits (Some i) s = sources-act_if app i (op_at app i (progress_at s i).op_index) s
+pub pending-act_current : (app : Application) (limits : Limits) (r : Option ℕ) (s : State)
+    → pending_in (act_current app limits r s) ≡ pending_in s
+pending-act_current app limits None s = pending-idle app limits s
+pending-act_current app limits (Some i) s = pending-act_if app i (op_at app i (progress_at s i).op_index) s
 
 -- ---- a step, and reset
 

@@ -1,9 +1,11 @@
 -- What each op makes of the ticks and of the suspension of the scheduler: most leave both as they were.
+use Rattle.model.specs.declared.op.Op.TheVariants as op
 use Rattle.model.specs.declared.op.Op.TheVariants.{Value}
 use Rattle.model.specs.Ops.{fail}
 use Rattle.model.specs.declared.event.End.TheVariants.{Check}
 use Rattle.model.specs.Step.{act_by_value, call_with_number, notify_by_number, lacks_value}
 use Rattle.model.specs.Values.{number_of}
+use Rattle.soundness.proofs.Frames.{pending_in, keeps-control}
 use Rattle.soundness.proofs.Frames.{keeps-calculate}
 use Rattle.std.proofs.Common.{Bool, ap, ap₂, ◌≡◌, ◌≤◌, ◌+◌, ◌-◌, ◌<◌, ◌||◌, ℕ, zero, suc, true, false, eqb, min}
 use Rattle.std.proofs.Common.{fold, List, [], ◌∷◌, ◌++◌, Option, Some, None, refl, ◌∙◌, arith, length}
@@ -43,7 +45,7 @@ use Rattle.model.specs.Notifications.{entered, is_there, wait_for_notification, 
 use Rattle.model.specs.Notifications.{await_notification}
 use Rattle.model.specs.Suspension.{suspend_all, resume_scheduler, resume_all}
 use Rattle.model.specs.Daemon.{next_command, obeyed, end_set_by_daemon, obey, command_at}
-use Rattle.model.specs.Handlers.{interrupt, tick_interrupt, idle, ticks_ahead, ticks_to_wake, ticks_to_interrupt}
+use Rattle.model.specs.Handlers.{interrupt, tick_interrupt, idle, ticks_ahead, ticks_to_wake, ticks_to_interrupt, ticks_to_raised}
 use Rattle.model.specs.Step.{act}
 use Rattle.model.specs.Invariant.{hold_of, InOne, course, Suspension, suspension_of}
 use Rattle.model.proofs.Sorting.{by_test}
@@ -71,7 +73,7 @@ pub record Applies (n : ℕ) (old new : State) : Type 0 where
   pub suspensions : new.suspensions ≡ old.suspensions
   pub held : new.held_ticks ≡ old.held_ticks - n
   pub sections : new.sections ≡ old.sections
-  pub sources : new.sources ≡ old.sources
+  pub pending : pending_in new ≡ pending_in old
   pub tasks : length new.tasks ≡ length old.tasks
 
 pub applies : (n : ℕ) (s : State) → Applies n s (apply_held n s)
@@ -82,7 +84,7 @@ applies zero s =
       suspensions = refl;
       held = omega arith;
       sections = refl;
-      sources = refl;
+      pending = refl;
       tasks = refl;
     }
 applies (suc n) s =
@@ -95,7 +97,7 @@ applies (suc n) s =
       suspensions = h.suspensions ∙ ap (λ (x : Suspension). x.suspensions) k.suspension;
       held = let e = h.held in omega arith;
       sections = h.sections ∙ ap (λ (x : Suspension). x.sections) k.suspension;
-      sources = h.sources ∙ k.sources;
+      pending = h.pending ∙ k.pending;
       tasks = h.tasks ∙ k.tasks;
     }
 
@@ -108,9 +110,9 @@ pub record Lasts (old new : State) : Type 0 where
   pub suspensions : new.suspensions ≡ old.suspensions
   pub held : new.held_ticks ≤ old.held_ticks
   pub sections : new.sections ≡ old.sections
-  pub sources : new.sources ≡ old.sources
+  pub pending : pending_in new ≡ pending_in old
 
-lasts_by : (s t : State) → t.elapsed ≡ s.elapsed → suspension_of t ≡ suspension_of s → t.sources ≡ s.sources → Lasts s t
+lasts_by : (s t : State) → t.elapsed ≡ s.elapsed → suspension_of t ≡ suspension_of s → pending_in t ≡ pending_in s → Lasts s t
 lasts_by s t elapsed suspension sources =
     let held : t.held_ticks ≡ s.held_ticks = ap (λ (x : Suspension). x.held_ticks) suspension in
     record {
@@ -118,11 +120,11 @@ lasts_by s t elapsed suspension sources =
       suspensions = ap (λ (x : Suspension). x.suspensions) suspension;
       held = omega arith;
       sections = ap (λ (x : Suspension). x.sections) suspension;
-      sources = sources;
+      pending = sources;
     }
 
 pub lasts : (s t : State) → Keeps s t → Lasts s t
-lasts s t k = lasts_by s t k.elapsed k.suspension k.sources
+lasts s t k = lasts_by s t k.elapsed k.suspension k.pending
 
 lasts_both : (a b c : State) → Lasts a b → Keeps b c → Lasts a c
 lasts_both a b c h k =
@@ -133,7 +135,7 @@ lasts_both a b c h k =
       suspensions = ap (λ (x : Suspension). x.suspensions) k.suspension ∙ h.suspensions;
       held = omega arith;
       sections = ap (λ (x : Suspension). x.sections) k.suspension ∙ h.sections;
-      sources = k.sources ∙ h.sources;
+      pending = k.pending ∙ h.pending;
     }
 
 -- where a call lets go of the scheduler
@@ -146,7 +148,7 @@ lasts-end_hold i phase s =
       suspensions = k.suspensions;
       held = omega arith;
       sections = k.sections;
-      sources = k.sources;
+      pending = k.pending;
     }
 
 -- After that no tick is held.
@@ -170,13 +172,13 @@ lasts-unlock s = by_locked s.locked where
   by_locked (Some o) =
       let k =
       keeps-all_ready (tasks_of (awakened s (ToReceive o)) ++ tasks_of (awakened s (ToSend o))) (record s { locked = None }) in
-      lasts_by s _ k.elapsed k.suspension k.sources
+      lasts_by s _ k.elapsed k.suspension k.pending
 
 pub lasts-decide : (i o : ℕ) (a : Access ℕ) (s : State) → Lasts s (decide i o a s)
 unfolding decide wait_in
 lasts-decide i o a s = by_test (possible s o a || is_expired s i)
     (λ t. rw t (lasts_by s _ refl refl refl))
-    (λ t. rw t (let k = keeps-inherit i o s in lasts_by s _ k.elapsed k.suspension k.sources))
+    (λ t. rw t (let k = keeps-inherit i o s in lasts_by s _ k.elapsed k.suspension k.pending))
 
 pub lasts-leave_call : (i : ℕ) (s : State) → Lasts s (leave_call i s)
 unfolding leave_call
@@ -200,14 +202,14 @@ lasts-await app i o a ticks Unlock s = let k = lasts-unlock s in record {
   suspensions = k.suspensions;
   held = k.held;
   sections = k.sections;
-  sources = k.sources;
+  pending = k.pending;
 }
 lasts-await app i o a ticks Leave s = lasts-leave_call i s
 
 pub lasts-begin_set : (i group mask : ℕ) (s : State) → Lasts s (begin_set i group mask s)
 unfolding begin_set
 lasts-begin_set i group mask s =
-    let k = keeps-set group mask (record s { call_hold = true }) in lasts_by s _ k.elapsed k.suspension k.sources
+    let k = keeps-set group mask (record s { call_hold = true }) in lasts_by s _ k.elapsed k.suspension k.pending
 
 pub lasts-end_set : (app : Application) (i : ℕ) (s : State)
     → Lasts s (preempt (answer app i (call_at s i).kept (end_hold i Start s)))
@@ -267,7 +269,7 @@ lasts-await_notification app i wait ticks Start s =
       suspensions = k.suspensions;
       held = k.held;
       sections = k.sections;
-      sources = k.sources;
+      pending = k.pending;
     }
 lasts-await_notification app i wait ticks Leave s = lasts-held_no_more i s
 lasts-await_notification app i wait ticks Try s = lasts s _ (keeps-end_notification_wait app i wait s)
@@ -306,13 +308,13 @@ pub record Ends (old new : State) : Type 0 where
   pub hold : hold_of new ≡ hold_of old
   pub suspension : suspension_of new ≡ suspension_of old
 
-pub ends_by : (s t : State) → t.elapsed ≡ s.elapsed → suspension_of t ≡ suspension_of s → t.sources ≡ s.sources
+pub ends_by : (s t : State) → t.elapsed ≡ s.elapsed → suspension_of t ≡ suspension_of s → pending_in t ≡ pending_in s
     → hold_of t ≡ hold_of s → Ends s t
 ends_by s t elapsed suspension sources hold =
     record { lasts = lasts_by s t elapsed suspension sources; hold = hold; suspension = suspension }
 
 ends : (s t : State) → Keeps s t → Ends s t
-ends s t k = ends_by s t k.elapsed k.suspension k.sources k.hold
+ends s t k = ends_by s t k.elapsed k.suspension k.pending k.hold
 
 ends-expect : (app : Application) (i : ℕ) (condition : AnswerCondition) (s : State) → Ends s (expect app i condition s)
 unfolding expect
@@ -380,8 +382,8 @@ sections-tick app s =
     ap (λ (x : Suspension). x.sections) (keeps-tick app s).suspension
     ∙ by_test (holds_ticks s) (λ t. rw t refl) (λ t. rw t refl)
 
-pub sources-tick : (app : Application) (s : State) → (tick_interrupt app s).sources ≡ s.sources
-sources-tick app s = (keeps-tick app s).sources ∙ by_test (holds_ticks s) (λ t. rw t refl) (λ t. rw t refl)
+pub pending-tick : (app : Application) (s : State) → pending_in (tick_interrupt app s) ≡ pending_in s
+pending-tick app s = (keeps-tick app s).pending ∙ by_test (holds_ticks s) (λ t. rw t refl) (λ t. rw t refl)
 
 -- ---- a jump: idle lets several ticks pass
 
@@ -444,7 +446,7 @@ unfolding idle
 most-idle app limits s most few l =
     either_way (λ t. t.elapsed ≤ most) app.tickless (jumped app (ticks_ahead app limits s) s) (tick_interrupt app s)
     (let n : ℕ = ticks_ahead app limits s in
-    let first = least (limits.ticks - s.elapsed) (ticks_to_wake s ++ ticks_to_interrupt app s) in
+    let first = least (limits.ticks - s.elapsed) (ticks_to_wake s ++ ticks_to_interrupt app s ++ ticks_to_raised s) in
     let within : n ≤ most - s.elapsed = max-le (omega arith) (omega arith) in
     let e : (jumped app n s).elapsed ≡ s.elapsed + n = (keeps-jumped app n s).elapsed in
     omega arith)
@@ -476,11 +478,11 @@ sections-idle app limits s =
     either_way (λ t. t.sections ≡ s.sections) app.tickless (jumped app (ticks_ahead app limits s) s) (tick_interrupt app s)
     (ap (λ (x : Suspension). x.sections) (keeps-jumped app (ticks_ahead app limits s) s).suspension) (sections-tick app s)
 
-pub sources-idle : (app : Application) (limits : Limits) (s : State) → (idle app limits s).sources ≡ s.sources
+pub pending-idle : (app : Application) (limits : Limits) (s : State) → pending_in (idle app limits s) ≡ pending_in s
 unfolding idle
-sources-idle app limits s =
-    either_way (λ t. t.sources ≡ s.sources) app.tickless (jumped app (ticks_ahead app limits s) s) (tick_interrupt app s)
-    (keeps-jumped app (ticks_ahead app limits s) s).sources (sources-tick app s)
+pending-idle app limits s =
+    either_way (λ t. pending_in t ≡ pending_in s) app.tickless (jumped app (ticks_ahead app limits s) s) (tick_interrupt app s)
+    (keeps-jumped app (ticks_ahead app limits s) s).pending (pending-tick app s)
 
 -- ---- the scheduler suspended and resumed
 
@@ -492,7 +494,7 @@ pub record Resumes (old new : State) : Type 0 where
   pub held : old.suspensions ≡ 1 → new.held_ticks ≡ 0
   pub no_more : new.held_ticks ≤ old.held_ticks
   pub sections : new.sections ≡ old.sections
-  pub sources : new.sources ≡ old.sources
+  pub pending : pending_in new ≡ pending_in old
 
 pub resumes : (s : State) → Resumes s (resume_scheduler s)
 unfolding resume_scheduler
@@ -505,7 +507,7 @@ resumes s = by_test (eqb s.suspensions 1)
       held = λ _. let e = k.held in omega arith;
       no_more = let e = k.held in omega arith;
       sections = k.sections;
-      sources = k.sources;
+      pending = k.pending;
     }))
     (λ t.
     rw t (record {
@@ -515,7 +517,7 @@ resumes s = by_test (eqb s.suspensions 1)
       held = λ e. let u : eqb s.suspensions 1 ≡ true = rw e refl in absurd (cc);
       no_more = omega arith;
       sections = refl;
-      sources = refl;
+      pending = refl;
     }))
 
 pub resumes-all : (app : Application) (i : ℕ) (s : State) → Resumes s (resume_all app i s)
@@ -536,7 +538,7 @@ resumes-all app i s =
           let less = r.no_more in
           omega arith);
       sections = ap (λ (x : Suspension). x.sections) k.suspension ∙ r.sections;
-      sources = k.sources ∙ r.sources;
+      pending = k.pending ∙ r.pending;
     }
 
 pub record Suspends (old new : State) : Type 0 where
@@ -545,7 +547,7 @@ pub record Suspends (old new : State) : Type 0 where
   pub suspensions : new.suspensions ≡ old.suspensions + 1
   pub held : new.held_ticks ≡ old.held_ticks
   pub sections : new.sections ≡ old.sections
-  pub sources : new.sources ≡ old.sources
+  pub pending : pending_in new ≡ pending_in old
 
 pub suspends-all : (app : Application) (i : ℕ) (s : State) → Suspends s (suspend_all app i s)
 unfolding suspend_all
@@ -557,7 +559,7 @@ suspends-all app i s =
       suspensions = ap (λ (x : Suspension). x.suspensions) k.suspension;
       held = ap (λ (x : Suspension). x.held_ticks) k.suspension;
       sections = ap (λ (x : Suspension). x.sections) k.suspension;
-      sources = k.sources;
+      pending = k.pending;
     }
 
 -- So many critical sections are open, and nothing else that is counted changes.
@@ -567,7 +569,7 @@ pub record Opens (n : ℕ) (old new : State) : Type 0 where
   pub suspensions : new.suspensions ≡ old.suspensions
   pub held : new.held_ticks ≡ old.held_ticks
   pub sections : new.sections ≡ n
-  pub sources : new.sources ≡ old.sources
+  pub pending : pending_in new ≡ pending_in old
 
 pub opens : (app : Application) (i n : ℕ) (s : State) → Opens n s (with_sections app i n s)
 unfolding with_sections
@@ -579,7 +581,7 @@ opens app i n s =
       suspensions = ap (λ (x : Suspension). x.suspensions) k.suspension;
       held = ap (λ (x : Suspension). x.held_ticks) k.suspension;
       sections = ap (λ (x : Suspension). x.sections) k.suspension;
-      sources = k.sources;
+      pending = k.pending;
     }
 
 -- ---- the ops
@@ -630,6 +632,7 @@ by_op P w s r e x f ResumeAll = r
 by_op P w s r e x f EnterCritical = e
 by_op P w s r e x f ExitCritical = x
 by_op P w s r e x f (Value op) = f (Value op) refl
+by_op P w s r e x f (op.Source j what) = f (op.Source j what) refl
 by_op P w s r e x f (NextCommand o) = f (NextCommand o) refl
 by_op P w s r e x f Obey = f Obey refl
 
@@ -644,7 +647,7 @@ ends-act app i Time s t w = ends s _ (keeps-answer app i (Some (printed s.time))
 ends-act app i (Mark value) s t w =
     let n : ℕ = number_of s.variables (progress_at s i).answer value in
     let k = keeps-go_to app i ((progress_at s i).op_index + 1) (progress_at s i) (write (what.Mark i n) s) in
-    ends_by s _ k.elapsed k.suspension k.sources k.hold
+    ends_by s _ k.elapsed k.suspension k.pending k.hold
 ends-act app i (Expect c) s t w = ends-expect app i c s
 ends-act app i (Repeat n) s t w = ends s _ (keeps-open_loop app i n s)
 ends-act app i End s t w = ends s _ (keeps-close_turn app i s)
@@ -674,6 +677,7 @@ ends-act app i ResumeAll s t w = absurd (cc)
 ends-act app i EnterCritical s t w = absurd (cc)
 ends-act app i ExitCritical s t w = absurd (cc)
 ends-act app i (Value op) s t w = ends s _ (keeps-calculate app i op s)
+ends-act app i (op.Source j what) s t w = ends s _ (keeps-control app i j what s)
 ends-act app i (NextCommand o) s t w = absurd (cc)
 ends-act app i Obey s t w = absurd (cc)
 
@@ -712,6 +716,7 @@ lasts-act app i ResumeAll s t = absurd (cc)
 lasts-act app i EnterCritical s t = absurd (cc)
 lasts-act app i ExitCritical s t = absurd (cc)
 lasts-act app i (Value op) s t = (ends-act app i (Value op) s refl refl).lasts
+lasts-act app i (op.Source j what) s t = (ends-act app i (op.Source j what) s refl refl).lasts
 lasts-act app i (NextCommand o) s t = lasts-next_command app i o (call_at s i).phase s
 lasts-act app i Obey s t = lasts-obey app i (command_at s i) (call_at s i).phase s
 
@@ -777,14 +782,14 @@ task_holds-act app i op s = by_op (λ op. task_holds (act app i op s) ≤ task_h
     op
 
 -- what is kept of the interrupt sources stays
-pub sources-act : (app : Application) (i : ℕ) (op : Op) (s : State) → (act app i op s).sources ≡ s.sources
-sources-act app i op s = by_op (λ op. (act app i op s).sources ≡ s.sources)
-    (λ n. sources-tick app (use_up app i n s) ∙ (keeps-use_up app i n s).sources)
-    (suspends-all app i s).sources
-    (resumes-all app i s).sources
-    (opens app i (s.sections + 1) s).sources
-    (opens app i (s.sections - 1) s).sources
-    (λ op t. (lasts-act app i op s t).sources)
+pub pending-act : (app : Application) (i : ℕ) (op : Op) (s : State) → pending_in (act app i op s) ≡ pending_in s
+pending-act app i op s = by_op (λ op. pending_in (act app i op s) ≡ pending_in s)
+    (λ n. pending-tick app (use_up app i n s) ∙ (keeps-use_up app i n s).pending)
+    (suspends-all app i s).pending
+    (resumes-all app i s).pending
+    (opens app i (s.sections + 1) s).pending
+    (opens app i (s.sections - 1) s).pending
+    (λ op t. (lasts-act app i op s t).pending)
     op
 
 -- an op that has no value to work with is a failed check, and any other is done

@@ -9,14 +9,14 @@ use Rattle.model.specs.Application.{Application, Handler, Limits}
 use Rattle.model.specs.State.{State, Source, no_source, source_at, for_each}
 use Rattle.model.specs.Switching.{make_ready, settle, is_critical}
 use Rattle.model.specs.Handlers.{serve, inject, pend, pending_of, none_pending, serve_pending}
-use Rattle.model.specs.Step.{act_current, before_step, step, reset, ready_at_reset, nobody_ready, with_ops}
+use Rattle.model.specs.Step.{act_current, before_step, step, reset, ready_at_reset, nobody_ready, source_at_reset, with_ops}
 use Rattle.model.specs.Run.{injected, state_after}
 use Rattle.model.specs.Invariant.{IsNonePending}
 use Rattle.model.proofs.Sorting.{by_test}
 use Rattle.model.proofs.Lists.{eqb-refl, eqb-same}
-use Rattle.soundness.proofs.Frames.{keeps-unless_held, keeps-settle, keeps-all_ready}
+use Rattle.soundness.proofs.Frames.{pending_in, keeps-unless_held, keeps-settle, keeps-all_ready}
 use Rattle.soundness.proofs.Coming.{comes-serve, comes-inject, ticks_before, ticks_in}
-use Rattle.soundness.proofs.Moving.{sources-act_current}
+use Rattle.soundness.proofs.Moving.{pending-act_current}
 
 -- ---- lists of sources
 
@@ -41,6 +41,19 @@ not_pending (x ∷ xs) (suc i) h = not_pending xs i h.1
 none_left : (p : ℕ → Bool) (ks : List ℕ) → ((k : ℕ) → p k ≡ false) → filter p ks ≡ []
 none_left p [] off = refl
 none_left p (k ∷ ks) off = rw (off k) (none_left p ks off)
+
+all_off : (xs : List Source) → AreNonePending xs → AllByRecursion (λ (b : Bool). b ≡ false) (map (λ (x : Source). x.pending) xs)
+all_off [] h = tt
+all_off (x ∷ xs) h = (h.0, all_off xs h.1)
+
+off_all : (xs : List Source) → AllByRecursion (λ (b : Bool). b ≡ false) (map (λ (x : Source). x.pending) xs) → AreNonePending xs
+off_all [] h = tt
+off_all (x ∷ xs) h = (h.0, off_all xs h.1)
+
+-- Where the same are pending, none is pending in both or in neither.
+pub none_by : (s t : State) → pending_in t ≡ pending_in s → IsNonePending s → IsNonePending t
+none_by s t same h =
+    off_all t.sources (subst (AllByRecursion (λ (b : Bool). b ≡ false)) (sym same) (all_off s.sources h))
 
 -- ---- a step begins with nothing
 
@@ -73,35 +86,29 @@ begun_with app handlers s h open_ =
     rw open_ (ap (λ (x : State). for_each (inject app) handlers x) (served_none app r h))
 
 -- Where none is open, all that is pending comes, and then what is injected.
-injected_as_served : (app : Application) (sources : List ℕ) (s : State)
-    → for_each (inject app) sources s ≡ for_each (serve app) sources s
-unfolding inject
-injected_as_served app [] s = refl
-injected_as_served app (source ∷ sources) s = injected_as_served app sources (serve app source s)
-
 pub begun_open : (app : Application) (sources : List ℕ) (s : State) → is_critical s ≡ false → before_step app sources s
-    ≡ for_each (serve app) sources (for_each (serve app) (pending_of s) (none_pending (record s { log = [] })))
+    ≡ for_each (inject app) sources (for_each (serve app) (pending_of s) (none_pending (record s { log = [] })))
 unfolding before_step serve_pending
-begun_open app sources s off =
-    rw off (injected_as_served app sources (for_each (serve app) (pending_of s) (none_pending (record s { log = [] }))))
+begun_open app sources s off = rw off refl
 
 -- Where one is open, it becomes pending.
 pub begun_critical : (app : Application) (sources : List ℕ) (s : State) → is_critical s ≡ true
-    → before_step app sources s ≡ for_each pend sources (record s { log = [] })
+    → before_step app sources s ≡ for_each (pend app) sources (record s { log = [] })
 unfolding before_step
 begun_critical app sources s on = rw on refl
 
 -- ---- nothing is pending after a step
 
-sources-served : (app : Application) (handlers : List ℕ) (s : State) → (for_each (serve app) handlers s).sources ≡ s.sources
-sources-served app [] s = refl
-sources-served app (handler ∷ handlers) s =
-    sources-served app handlers (serve app handler s) ∙ (comes-serve app handler s).sources
+pending-served : (app : Application) (handlers : List ℕ) (s : State) → pending_in (for_each (serve app) handlers s) ≡ pending_in s
+pending-served app [] s = refl
+pending-served app (handler ∷ handlers) s =
+    pending-served app handlers (serve app handler s) ∙ (comes-serve app handler s).pending
 
-pub sources-injected : (app : Application) (handlers : List ℕ) (s : State) → (for_each (inject app) handlers s).sources ≡ s.sources
-sources-injected app [] s = refl
-sources-injected app (handler ∷ handlers) s =
-    sources-injected app handlers (inject app handler s) ∙ (comes-inject app handler s).sources
+pub pending-injected : (app : Application) (handlers : List ℕ) (s : State)
+    → pending_in (for_each (inject app) handlers s) ≡ pending_in s
+pending-injected app [] s = refl
+pending-injected app (handler ∷ handlers) s =
+    pending-injected app handlers (inject app handler s) ∙ (comes-inject app handler s).pending
 
 none_begun : (app : Application) (handlers : List ℕ) (s : State) → is_critical s ≡ false
     → IsNonePending (before_step app handlers s)
@@ -110,38 +117,39 @@ none_begun app handlers s open_ =
     let r : State = none_pending (record s { log = [] }) in
     let served : State = for_each (serve app) (pending_of s) r in
     let t : State = for_each (inject app) handlers served in
-    let same : t.sources ≡ r.sources = sources-injected app handlers served ∙ sources-served app (pending_of s) r in
-    rw open_ (subst AreNonePending (sym same) (none_now s.sources))
+    let same : pending_in t ≡ pending_in r = pending-injected app handlers served ∙ pending-served app (pending_of s) r in
+    rw open_ (none_by r t same (none_now s.sources))
 
--- what a step does behind its handlers leaves the sources as they are
-pub sources-step : (app : Application) (limits : Limits) (handlers : List ℕ) (s : State)
-    → (step app limits handlers s).sources ≡ (before_step app handlers s).sources
+-- What a step does behind its handlers leaves those pending that are so.
+pub pending-step : (app : Application) (limits : Limits) (handlers : List ℕ) (s : State)
+    → pending_in (step app limits handlers s) ≡ pending_in (before_step app handlers s)
 unfolding step
-sources-step app limits handlers s =
+pending-step app limits handlers s =
     let begun : State = before_step app handlers s in
     let acted : State = act_current app limits begun.current begun in
-    (keeps-unless_held settle acted keeps-settle).sources ∙ sources-act_current app limits begun.current begun
+    (keeps-unless_held settle acted keeps-settle).pending ∙ pending-act_current app limits begun.current begun
 
 pub none_after : (app : Application) (limits : Limits) (handlers : List ℕ) (s : State) → is_critical s ≡ false
     → IsNonePending (step app limits handlers s)
 none_after app limits handlers s open_ =
-    subst AreNonePending (sym (sources-step app limits handlers s)) (none_begun app handlers s open_)
+    none_by (before_step app handlers s) (step app limits handlers s) (pending-step app limits handlers s)
+    (none_begun app handlers s open_)
 
 -- Where nothing is pending, and nothing is injected, nothing is pending behind the step.
 pub none_still : (app : Application) (limits : Limits) (s : State) → IsNonePending s → IsNonePending (step app limits [] s)
 none_still app limits s h =
-    let same : (step app limits [] s).sources ≡ s.sources =
-    sources-step app limits [] s ∙ ap (λ (x : State). x.sources) (begun_alone app s h) in
-    subst AreNonePending (sym same) h
+    let same : pending_in (step app limits [] s) ≡ pending_in s =
+    pending-step app limits [] s ∙ ap pending_in (begun_alone app s h) in
+    none_by s (step app limits [] s) same h
 
 -- ---- at reset
 
-pub none_listed : (handlers : List Handler) → AreNonePending (map (λ (handler : Handler). no_source) handlers ++ no_source ∷ [])
+pub none_listed : (handlers : List Handler) → AreNonePending (map source_at_reset handlers ++ no_source ∷ [])
 none_listed [] = (refl, tt)
 none_listed (handler ∷ handlers) = (refl, none_listed handlers)
 
 none_ready : (app : Application) (is : List ℕ) (s : State) → IsNonePending s → IsNonePending (for_each make_ready is s)
-none_ready app is s h = subst AreNonePending (sym (keeps-all_ready is s).sources) h
+none_ready app is s h = none_by s (for_each make_ready is s) (keeps-all_ready is s).pending h
 
 pub none_at_reset : (app : Application) → IsNonePending (reset app)
 unfolding reset ready_at_reset nobody_ready

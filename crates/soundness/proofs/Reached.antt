@@ -11,6 +11,7 @@ use Rattle.model.specs.Application.{Application, Limits, Definition, Handler}
 use Rattle.model.specs.Scripts.{IsDefinition, IsObjectKind, IsWellFormed}
 use Rattle.model.specs.State.{State, no_task, no_object, no_source, for_each}
 use Rattle.model.specs.Switching.{make_ready, choice}
+use Rattle.model.specs.Step.{source_at_reset}
 use Rattle.model.specs.Step.{reset, nobody_ready, ready_at_reset, task_at_reset, object_at_reset, with_ops}
 use Rattle.model.specs.Run.{injected, state_after}
 use Rattle.model.specs.Invariant.{IsAt, hold_of, IsObject, HasPriority, IsSound, Suspension, suspension_of, IsState}
@@ -94,8 +95,8 @@ module _ (app : Application) (formed : IsWellFormed app) where
     calls = λ i. let at = call-reset app.start i app.tasks in call_none free app.start _ _ at.0 at.1;
     contents = λ o. contents-reset o app.objects formed.objects;
     sources =
-        length-append (map (λ (handler : Handler). no_source) app.handlers) (no_source ∷ [])
-        ∙ ap (λ (n : ℕ). n + 1) (length-map app.handlers (λ (handler : Handler). no_source));
+        length-append (map source_at_reset app.handlers) (no_source ∷ [])
+        ∙ ap (λ (n : ℕ). n + 1) (length-map app.handlers source_at_reset);
     priorities = λ i. priority-reset app.start i app.tasks formed.tasks;
     time = (omega arith, omega arith);
   }

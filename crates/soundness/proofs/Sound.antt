@@ -20,14 +20,16 @@ use Rattle.model.specs.Blocks.{edge_of, jump_from}
 use Rattle.model.specs.Scripts.{IsWellFormed}
 use Rattle.model.specs.State.{State, Task, Source, Progress, Status, Wait, Ready, Awake, Waiting, Asleep, WaitingForBits}
 use Rattle.model.specs.State.{WaitingForNotification, Suspended, Ended, ticket_if_ready, ticket_of, wake_time_of, no_call, task_at}
-use Rattle.model.specs.State.{progress_at, status_at, with_task, take_ticket, for_one, for_each, no_task}
+use Rattle.model.specs.State.{progress_at, status_at, with_task, take_ticket, for_one, for_each, no_task, source_at, with_source}
 use Rattle.model.specs.Order.{Entry, tasks_of}
 use Rattle.model.specs.Switching.{make_ready, to_back, dispatch, choose, choice, is_same, is_ready, yield_now, is_outranked}
 use Rattle.model.specs.Switching.{is_sharing, preempt, slice, settle, is_off, write}
 use Rattle.model.specs.Waiting.{is_locked}
 use Rattle.model.specs.Time.{wake_due, due, is_due, delayed_list, delayed_key, sleep, set_previous_wake}
 use Rattle.model.specs.Ops.{go_to, moved_to, complete, called, answer, use_up, delay, delay_until, expect, open_loop, next_turn}
-use Rattle.model.specs.Ops.{turn, close_turn, branch, skip_branch, leave_loop, stamp, since}
+use Rattle.model.specs.Ops.{turn, close_turn, branch, skip_branch, leave_loop, stamp, since, do_to_source}
+use Rattle.model.specs.declared.source.SourceOp.{SourceOp}
+use Rattle.model.specs.declared.source.SourceOp.TheVariants.{Arm, Disarm, Raise, Cancel}
 use Rattle.model.specs.Invariant.{HasTicketBelow, IsUsedBy, AreOpenAt, LoopsNest, IsReckoned, HasPriority, IsAt, Hold, course}
 use Rattle.model.specs.Invariant.{IsPhaseOf, IsWaitOf, IsCall, IsSound, wait_of}
 use Rattle.model.proofs.Sorting.{by_test}
@@ -420,6 +422,17 @@ module _ (app : Application) (formed : IsWellFormed app) (hold : Hold) where
     priorities = h.priorities;
     time = h.time;
   }
+
+  -- one of them
+  pub with_source_sound : (source : ℕ) (x : Source) (s : State) → IsSound app hold s → IsSound app hold (with_source source x s)
+  with_source_sound source x s h = resourced s (set s.sources source x) (length-set s.sources source x ∙ h.sources) h
+
+  pub done_to_source : (handler : ℕ) (op : SourceOp) (s : State) → IsSound app hold s → IsSound app hold (do_to_source handler op s)
+  done_to_source handler Arm s h = with_source_sound handler (record (source_at s handler) { armed = true }) s h
+  done_to_source handler Disarm s h = with_source_sound handler (record (source_at s handler) { armed = false }) s h
+  done_to_source handler (Raise ticks) s h =
+      with_source_sound handler (record (source_at s handler) { raised = Some (s.elapsed + ticks) }) s h
+  done_to_source handler Cancel s h = with_source_sound handler (record (source_at s handler) { raised = None }) s h
 
   -- The task of the state, which doesn't wait, is at an op, which does something and goes on.
   module _ (s : State) (i : ℕ) (h : IsSound app hold s) (free : wait_of (status_at s i) ≡ None) where

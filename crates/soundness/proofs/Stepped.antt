@@ -1,4 +1,5 @@
 -- What is true of every state that a run comes to is true after a step.
+use Rattle.model.specs.declared.op.Op.TheVariants as op
 use Rattle.model.specs.declared.op.Op.TheVariants.{Value}
 use Rattle.soundness.proofs.Passing.{by_value}
 use Rattle.model.specs.Step.{call_with_number}
@@ -62,7 +63,7 @@ use Rattle.soundness.proofs.Passing.{hold-idle, suspension-idle, hold-act, suspe
 use Rattle.soundness.proofs.Passing.{resumes-all, Opens, opens}
 use Rattle.soundness.proofs.Judging.{judged_held, judged_calm, not_ended, misuse_calm, not_barred, switches_not}
 use Rattle.soundness.proofs.Sound.{logged, settled, preempted, resourced}
-use Rattle.soundness.proofs.Handled.{and_left, and_right, idled, handled_between}
+use Rattle.soundness.proofs.Handled.{and_left, and_right, idled}
 use Rattle.soundness.proofs.Trying.{tried}
 use Rattle.soundness.proofs.Called.{dated, dated_at, phase_free, course_of_one}
 use Rattle.soundness.proofs.Phases.{free, unsuspended, calm_free, none_above, calm_where, calm_held, let_go_of, decided}
@@ -565,6 +566,7 @@ module _ (app : Application) (formed : IsWellFormed app) where
       calm_done Stamp is e = instant (start_only Stamp refl is) off Stamp is refl refl
       calm_done Since is e = instant (start_only Since refl is) off Since is refl refl
       calm_done (Value op) is e = instant (start_only (Value op) refl is) off (Value op) is refl refl
+      calm_done (op.Source j what) is e = instant (start_only (op.Source j what) refl is) off (op.Source j what) is refl refl
       calm_done (Await o a ticks) is e = next o a ticks is (call_at s i).phase refl
       calm_done (Do o a) is e = instant (start_only (Do o a) refl is) off (Do o a) is refl refl
       calm_done (GiveMutex o) is e = instant (start_only (GiveMutex o) refl is) off (GiveMutex o) is refl refl
@@ -698,6 +700,7 @@ module _ (app : Application) (formed : IsWellFormed app) where
       held_done Stamp is fine q = continued Stamp is refl refl refl
       held_done Since is fine q = continued Since is refl refl refl
       held_done (Value op) is fine q = continued (Value op) is refl refl refl
+      held_done (op.Source j what) is fine q = continued (op.Source j what) is refl refl refl
       held_done (Await o a ticks) is fine q = absurd (cc)
       held_done (Do o a) is fine q = absurd (cc)
       held_done (GiveMutex o) is fine q = absurd (cc)

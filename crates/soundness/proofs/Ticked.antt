@@ -1,5 +1,5 @@
 -- A tick between two steps keeps what is true of every state that a run comes to: it is held, or time goes on.
-use Rattle.std.proofs.Common.{◌≡◌, ◌+◌, ℕ, true, false, List, [], ◌∷◌, Option, Some, None, refl, ap, sym, subst, ◌∙◌}
+use Rattle.std.proofs.Common.{◌≡◌, ◌+◌, ℕ, true, false, List, [], ◌∷◌, ◌++◌, Option, Some, None, refl, ap, sym, subst, ◌∙◌}
 use Rattle.std.proofs.Common.{inl, inr}
 use Rattle.std.specs.Option.{IfSome, is_some}
 use Rattle.model.specs.Application.{Application, interrupts_at}
@@ -8,7 +8,7 @@ use Rattle.model.specs.State.{State, Task, ticket_if_ready, task_at, for_each}
 use Rattle.model.specs.Order.{tasks_of}
 use Rattle.model.specs.Switching.{is_ready, slice, is_held, holds_ticks, is_critical, unless_held}
 use Rattle.model.specs.Time.{wake_due, due, delayed_list, advance, increment_tick}
-use Rattle.model.specs.Handlers.{handle, interrupt, tick_interrupt}
+use Rattle.model.specs.Handlers.{come as comes, interrupt, raised_now, none_raised_now, tick_interrupt}
 use Rattle.model.specs.Invariant.{hold_of, IsSound, RunsIn, IsRunning, IsState}
 use Rattle.model.proofs.Sorting.{by_test}
 use Rattle.model.proofs.Unlocking.{current-all_ready}
@@ -17,7 +17,7 @@ use Rattle.soundness.proofs.Settled.{unlike}
 use Rattle.soundness.proofs.Passing.{held-told, hold-tick, suspension-tick}
 use Rattle.soundness.proofs.Released.{all_but, due_apart}
 use Rattle.soundness.proofs.Sound.{held_up}
-use Rattle.soundness.proofs.Handled.{ticked, handled_between}
+use Rattle.soundness.proofs.Handled.{ticked, come_between, lowered_between}
 use Rattle.soundness.proofs.Going.{spares-interrupt}
 use Rattle.soundness.proofs.Phases.{free}
 use Rattle.soundness.proofs.Stepped.{at_rest, calm_now, hold_none, no_call_holds, sound_free}
@@ -76,14 +76,15 @@ settled_tick app s none off h =
     (settled-slice (told app s off) (told_settled app s off h))
 
 module _ (app : Application) (formed : IsWellFormed app) where
-  all_between : (handlers : List ℕ) (s : State) → IsState app s → IsState app (for_each (handle app) handlers s)
+  all_between : (handlers : List ℕ) (s : State) → IsState app s → IsState app (for_each (comes app) handlers s)
   all_between [] s h = h
   all_between (handler ∷ handlers) s h =
-      all_between handlers (handle app handler s) (handled_between app formed handler s h)
+      all_between handlers (comes app handler s) (come_between app formed handler s h)
 
   interrupted_between : (s : State) → IsState app s → IsState app (interrupt app s)
   unfolding interrupt
-  interrupted_between s h = all_between (interrupts_at app s.elapsed) s h
+  interrupted_between s h =
+      all_between (interrupts_at app s.elapsed ++ raised_now s) (none_raised_now s) (lowered_between app formed s h)
 
   -- it is held
   pub held_between : (s : State) → holds_ticks s ≡ true → IsState app s → IsState app (increment_tick s)

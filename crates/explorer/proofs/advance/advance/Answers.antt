@@ -1,9 +1,10 @@
-use Rattle.std.proofs.Common.{◌≡◌, ◌∙◌, ◌<◌, ◌≤◌, ◌+◌, ◌-◌, Global, Vec, ap, arith, get_or, length}
+use Rattle.std.proofs.Common.{◌≤◌, ◌+◌, ◌-◌, ◌∷◌, [], ◌++◌, List, Global, Vec, ap, arith, length, subst}
 use Rattle.model.specs.Placements.{Found}
 use Rattle.explorer.specs.declared.layer.Layer.{Layer}
 use Rattle.explorer.specs.declared.layer.Node.{Node}
 use Rattle.explorer.specs.Frontiers.{everything}
-use Rattle.explorer.proofs.Advancing.{few_in_all, live_all, live_left, live_room, live_step, live_way, passed_more, passed_none}
+use Rattle.explorer.proofs.Advancing.{AreLeft, all_passed, few_in_all, its_least, its_passed, its_room, its_step, its_way}
+use Rattle.explorer.proofs.Advancing.{live_left, none_there}
 use Rattle.explorer.proofs.Advancing.{room_for_all}
 use Rattle.explorer.proofs.advance.advance.Goals as goal
 
@@ -13,79 +14,69 @@ pass-requires c =
     let levels = length c.args.choices.now.levels.items in
     let app = c.args.app.now in
     let limits = c.args.limits.now in
-    let nodes = c.as_slice-node-items.result.now in
-    let old = c.args.frontier.now in
-    let start = c.take_live.new.self in
-    let taken : nodes ≡ old.live.nodes.items =
-    c.as_slice-node-items.ensures.value ∙ ap (λ (ns : Vec Node Global). ns.items) c.take_live.ensures.taken in
-    let found : start.findings.items ≡ old.findings.items =
-    ap (λ (fs : Vec Found Global). fs.items) c.take_live.ensures.found in
-    let kept : start.spent.nodes.items ≡ old.spent.nodes.items =
-    ap (λ (kernels : Layer). kernels.nodes.items) c.take_live.ensures.spent in
-    let i = c.loop-node.node-index in
-    let node = c.node-item.result in
-    let within : i < length nodes = c.loop-node-test.true in
-    let is : node ≡ get_or nodes i node = c.node-item.is in
     let ready = c.requires.ready in
     let n = ready.n in
+    let until = c.args.until in
     let all = everything app limits handlers levels in
-    let none = c.take_live.ensures.none in
-    let passed = c.loop-node.invariant n in
-    let step = live_step app limits handlers levels n c.args.until old start nodes all ready.holds taken none kept found
-    c.loop-node.frontier i node within is in
-    let left = live_left app limits handlers levels n c.args.until old start nodes all ready.holds taken none kept found
-    c.loop-node.frontier i node within is in
-    let room = live_room app limits handlers levels n c.args.until old start nodes all ready.holds taken none kept found
-    c.loop-node.frontier i node within is passed in
+    let node = c.in-Some.node in
+    let rest = c.pop.new.self.items in
+    let next = c.loop-node.frontier in
+    let left : AreLeft app limits handlers levels n (n + 1) until (λ plan. length plan ≤ levels - 1) (rest ++ node ∷ []) next all =
+    subst (λ (nodes : List Node).
+    AreLeft app limits handlers levels n (n + 1) until (λ plan. length plan ≤ levels - 1) nodes next all)
+    c.in-Some.ensures.items (c.loop-node.invariant n all
+    (live_left app limits handlers levels n until c.args.frontier.now c.take_live.new.self c.take_live.new.layer.nodes.items all
+    ready.holds (ap (λ (ns : Vec Node Global). ns.items) c.take_live.ensures.taken) c.take_live.ensures.none
+    (ap (λ (kernels : Layer). kernels.nodes.items) c.take_live.ensures.spent)
+    (ap (λ (fs : Vec Found Global). fs.items) c.take_live.ensures.found))) in
+    let step = its_step app limits handlers levels n (n + 1) until (λ plan. length plan ≤ levels - 1) rest node next all left in
+    let short = its_least app limits handlers levels n (n + 1) until (λ plan. length plan ≤ levels - 1) rest node next all left in
+    let room = its_room app limits handlers levels n (n + 1) until (λ plan. length plan ≤ levels - 1) rest node next all left in
     let few = few_in_all app limits handlers levels ready.few c.requires.few ready.short in
     let some = ready.some in
     let before = ready.ahead in
     record {
-      way =
-          live_way app limits handlers levels n c.args.until old start nodes all ready.holds taken none kept found
-          c.loop-node.frontier i node within is;
+      way = its_way app limits handlers levels n (n + 1) until (λ plan. length plan ≤ levels - 1) rest node next all left;
       levels = c.requires.levels;
       few = c.requires.few;
-      left = omega (arith, left, some);
+      left = omega (arith, short, some);
       ahead = omega (arith, step, before);
       room = room_for_all handlers levels node.least _ node.count ready.few c.requires.few (omega (arith, room, few));
       found = omega (arith, room, few);
     }
 
 pub loop-node-init : goal.loop-node-init
-loop-node-init c = λ n.
-    passed_none c.args.app.now c.args.limits.now c.args.choices.now.handlers.items (length c.args.choices.now.levels.items)
-    n (n + 1) c.args.until (λ plan. length plan ≤ length c.args.choices.now.levels.items - 1) c.as_slice-node-items.result.now
-    c.take_live.new.self
+loop-node-init c = λ n all left. left
 
 pub loop-node-preserved : goal.loop-node-preserved
-loop-node-preserved c = λ n.
-    let nodes = c.as_slice-node-items.result.now in
-    let i = c.loop-node.node-index in
-    let node = c.node-item.result in
-    let within : i < length nodes = c.loop-node-test.true in
-    let is : node ≡ get_or nodes i node = c.node-item.is in
-    passed_more c.args.app.now c.args.limits.now c.args.choices.now.handlers.items (length c.args.choices.now.levels.items)
-    n (n + 1) c.args.until (λ plan. length plan ≤ length c.args.choices.now.levels.items - 1) nodes c.take_live.new.self
-    c.loop-node.frontier c.pass.new.frontier i node within is (c.loop-node.invariant n)
-    (λ more base are of h. c.in_ok-pass.ensures n more base of h)
-
-pub returns : goal.returns
-returns c = λ n h.
+loop-node-preserved c = λ n all left.
     let handlers = c.args.choices.now.handlers.items in
     let levels = length c.args.choices.now.levels.items in
     let app = c.args.app.now in
     let limits = c.args.limits.now in
-    let nodes = c.as_slice-node-items.result.now in
-    let old = c.args.frontier.now in
-    let start = c.take_live.new.self in
-    let taken : nodes ≡ old.live.nodes.items =
-    c.as_slice-node-items.ensures.value ∙ ap (λ (ns : Vec Node Global). ns.items) c.take_live.ensures.taken in
-    let found : start.findings.items ≡ old.findings.items =
-    ap (λ (fs : Vec Found Global). fs.items) c.take_live.ensures.found in
-    let kept : start.spent.nodes.items ≡ old.spent.nodes.items =
-    ap (λ (kernels : Layer). kernels.nodes.items) c.take_live.ensures.spent in
-    live_all app limits handlers levels n c.args.until old start nodes (everything app limits handlers levels) h taken
-    c.take_live.ensures.none kept found c.loop-node.frontier c.loop-node.node-index
-    c.loop-node-test.false
-    (c.loop-node.invariant n)
+    let until = c.args.until in
+    let node = c.in-Some.node in
+    let rest = c.pop.new.self.items in
+    let next = c.loop-node.frontier in
+    its_passed app limits handlers levels n (n + 1) until (λ plan. length plan ≤ levels - 1) rest node next all
+    (subst (λ (nodes : List Node).
+    AreLeft app limits handlers levels n (n + 1) until (λ plan. length plan ≤ levels - 1) nodes next all)
+    c.in-Some.ensures.items (c.loop-node.invariant n all left)) c.pass.new.frontier
+    (λ more base are of holds. c.in_ok-pass.ensures n more base of holds)
+
+pub returns : goal.returns
+returns c = λ n h.
+    let long = c.loop-node.layer.nodes.ok.0 in
+    let over = c.in_default.ensures.cases.0 in
+    let handlers = c.args.choices.now.handlers.items in
+    let levels = length c.args.choices.now.levels.items in
+    let app = c.args.app.now in
+    let limits = c.args.limits.now in
+    let all = everything app limits handlers levels in
+    all_passed app limits handlers levels n (n + 1) c.args.until (λ plan. length plan ≤ levels - 1)
+    c.loop-node.layer.nodes.items c.loop-node.frontier all (none_there c.loop-node.layer.nodes.items (omega (arith, long, over)))
+    (c.loop-node.invariant n all
+    (live_left app limits handlers levels n c.args.until c.args.frontier.now c.take_live.new.self c.take_live.new.layer.nodes.items
+    all h (ap (λ (ns : Vec Node Global). ns.items) c.take_live.ensures.taken) c.take_live.ensures.none
+    (ap (λ (kernels : Layer). kernels.nodes.items) c.take_live.ensures.spent)
+    (ap (λ (fs : Vec Found Global). fs.items) c.take_live.ensures.found)))

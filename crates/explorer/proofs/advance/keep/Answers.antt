@@ -10,10 +10,10 @@ returns-then-len-levels-clause-takes c =
     let test = c.if-len-levels.true in
     on_ok c.settle.result
     (λ settles.
-    takes_live c.args.app.now c.args.limits.now c.args.levels c.args.until c.args.stepper.now.kernel c.args.count c.args.least
+    takes_live c.args.app.now c.args.limits.now c.args.levels c.args.until c.args.kernel.now c.args.count c.args.least
     c.args.frontier.now (record c.args.frontier.now { live = c.settle.new.layer; findings = c.settle.new.findings })
     (omega (arith, long, test))
-    (subst (λ (here : ℕ). Settles c.args.app.now c.args.limits.now here c.args.stepper.now.kernel c.args.count c.args.least
+    (subst (λ (here : ℕ). Settles c.args.app.now c.args.limits.now here c.args.kernel.now c.args.count c.args.least
     c.args.frontier.now.live.nodes.items c.settle.new.layer.nodes.items
     c.args.frontier.now.findings.items c.settle.new.findings.items) c.steps-here.ensures settles) refl)
     c.settle.ensures.settles
@@ -24,7 +24,7 @@ returns-else-len-levels-clause-takes c =
     let test = c.if-len-levels.false in
     on_ok c.settle-else-len-levels.result
     (λ settles.
-    takes_spent c.args.app.now c.args.limits.now c.args.levels c.args.until c.args.stepper.now.kernel c.args.count c.args.least
+    takes_spent c.args.app.now c.args.limits.now c.args.levels c.args.until c.args.kernel.now c.args.count c.args.least
     c.args.frontier.now (record c.args.frontier.now {
       spent = c.settle-else-len-levels.new.layer;
       findings =

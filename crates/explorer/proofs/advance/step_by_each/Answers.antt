@@ -1,19 +1,20 @@
 use Rattle.std.proofs.Common.{◌≡◌, ◌∙◌, ◌≤◌, ◌+◌, ◌*◌, ◌^◌, ℕ, List, [], ◌∷◌, ◌++◌, ap, arith, length, refl, subst, sym, take}
 use Rattle.std.proofs.lemmas.List.{take_more}
-use Rattle.explorer.specs.Frontiers.{number_in}
+use Rattle.machine.specs.declared.machine.Machine.{Machine}
+use Rattle.explorer.specs.Frontiers.{TakesBy, number_in}
 use Rattle.explorer.proofs.Passing.{all_get, room_of, take_whole, takes_as, takes_none, takes_then}
 use Rattle.explorer.proofs.advance.step_by_each.Goals as goal
 
 pub step_by-requires-clause-few : goal.step_by-requires-clause-few
 step_by-requires-clause-few c =
-    let least = c.args.node.now.least in
+    let least = c.args.least.now in
     subst (λ (now : List ℕ). length least + length now ≤ 3) (sym (c.as_slice.ensures ∙ c.now-item.is))
     (all_get (λ now. length least + length now ≤ 3) c.args.level.now c.loop-now.now-index c.now-item.result c.loop-now-test.true
     c.requires.few)
 
 pub step_by-requires-clause-room : goal.step_by-requires-clause-room
 step_by-requires-clause-room c =
-    let count = c.args.node.now.count in
+    let count = c.args.count in
     let base = number_in c.args.frontier.now in
     let i = c.loop-now.now-index in
     let on = c.loop-now-test.true in
@@ -24,7 +25,9 @@ step_by-requires-clause-room c =
 pub loop-now-init : goal.loop-now-init
 loop-now-init c = record {
   base = refl;
-  takes = takes_none c.args.app.now c.args.limits.now c.args.levels c.args.until c.args.node.now c.args.frontier.now;
+  takes =
+      takes_none c.args.app.now c.args.limits.now c.args.levels c.args.until c.args.stepper.now.base c.args.count c.args.least.now
+      c.args.frontier.now;
   count = omega arith;
 }
 
@@ -42,20 +45,21 @@ loop-now-preserved c =
     let so_far = c.loop-now.invariant.count in
     let more = c.in_ok-step_by.ensures.count in
     record {
-      base = c.step_by.ensures.base ∙ c.loop-now.invariant.base;
+      base = c.loop-now.invariant.base;
       takes =
-          takes_as c.args.app.now c.args.limits.now c.args.levels c.args.until c.args.node.now (take i level ++ now ∷ [])
-          (take (i + 1) level) old new one_more
-          (takes_then c.args.app.now c.args.limits.now c.args.levels c.args.until c.args.node.now (take i level) (now ∷ []) old mid
-          new
-          c.loop-now.invariant.takes c.in_ok-step_by.ensures.takes);
+          takes_as c.args.app.now c.args.limits.now c.args.levels c.args.until c.args.stepper.now.base c.args.count c.args.least.now
+          (take i level ++ now ∷ []) (take (i + 1) level) old new one_more
+          (takes_then c.args.app.now c.args.limits.now c.args.levels c.args.until c.args.stepper.now.base c.args.count
+          c.args.least.now (take i level) (now ∷ []) old mid new c.loop-now.invariant.takes
+          (subst (λ (k : Machine). TakesBy c.args.app.now c.args.limits.now c.args.levels c.args.until k c.args.count
+          c.args.least.now (now ∷ []) mid new) (c.set_from.ensures ∙ c.loop-now.invariant.base) c.in_ok-step_by.ensures.takes));
       count = omega (arith, so_far, more);
     }
 
 pub returns-clause-takes : goal.returns-clause-takes
 returns-clause-takes c =
-    takes_as c.args.app.now c.args.limits.now c.args.levels c.args.until c.args.node.now (take c.loop-now.now-index
-    c.args.level.now)
+    takes_as c.args.app.now c.args.limits.now c.args.levels c.args.until c.args.stepper.now.base c.args.count c.args.least.now
+    (take c.loop-now.now-index c.args.level.now)
     c.args.level.now c.args.frontier.now c.loop-now.frontier
     (take_whole c.args.level.now c.loop-now.now-index c.loop-now-test.false) c.loop-now.invariant.takes
 
@@ -64,5 +68,5 @@ returns-clause-count c =
     let over = c.loop-now-test.false in
     let within = c.loop-now.auto.now-index-end in
     let all : c.loop-now.now-index ≡ length c.args.level.now = omega (arith, over, within) in
-    subst (λ (n : ℕ). number_in c.loop-now.frontier ≡ number_in c.args.frontier.now + n * c.args.node.now.count)
+    subst (λ (n : ℕ). number_in c.loop-now.frontier ≤ number_in c.args.frontier.now + n * c.args.count)
     all c.loop-now.invariant.count

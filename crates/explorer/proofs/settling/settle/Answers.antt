@@ -12,7 +12,7 @@ count_end-requires c =
 pub returns-in-Some-clause-settles : goal.returns-in-Some-clause-settles
 returns-in-Some-clause-settles c = on_ok c.count_end.result
     (λ tallies.
-    settled_found c.args.app.now c.args.limits.now c.args.until c.args.stepper.now.kernel c.go_far.new.self.kernel
+    settled_found c.args.app.now c.args.limits.now c.args.until c.args.kernel.now c.go_on_far.new.kernel
     c.args.count c.args.least c.in_ok-ending.ending c.in_ok-ending.ensures.far c.in-Some.ending c.in-Some.is
     c.args.layer.now.nodes.items c.args.findings.now.items c.count_end.new.found.items _ refl refl refl refl tallies)
     c.count_end.ensures.tallies
@@ -20,7 +20,7 @@ returns-in-Some-clause-settles c = on_ok c.count_end.result
 pub returns-in-None-clause-settles : goal.returns-in-None-clause-settles
 returns-in-None-clause-settles c = on_ok c.add.result
     (λ gains.
-    settled_there c.args.app.now c.args.limits.now c.args.until c.args.stepper.now.kernel c.go_far.new.self.kernel
+    settled_there c.args.app.now c.args.limits.now c.args.until c.args.kernel.now c.go_on_far.new.kernel
     c.args.count c.args.least c.in_ok-ending.ending c.in_ok-ending.ensures.far c.in-None.is
     c.args.layer.now.nodes.items c.add.new.self.nodes.items c.args.findings.now.items gains)
     c.add.ensures.gains

@@ -1,6 +1,6 @@
 use Rattle.model.specs.declared.op.Op.TheVariants.{Value}
 use Rattle.std.proofs.Common.{refl, subst}
-use Rattle.model.specs.declared.op.Op.TheVariants.{Work, End as EndLoop, If}
+use Rattle.model.specs.declared.op.Op.TheVariants.{Work, Delay, Yield, Time, End as EndLoop, If}
 use Rattle.model.specs.declared.op.Op.TheVariants.{Await, Do}
 use Rattle.model.specs.declared.op.Op.TheVariants.{SetBits, WaitBits, Notify, AwaitNotification}
 use Rattle.kernel.specs.Bits.Begins.{Sets, Waits, Notices}
@@ -15,21 +15,21 @@ returns-in-Work-clause-does g c =
     let can = subst (CanOp c.args.app.now c.args.machine.now c.args.task) c.in-Work.is c.requires.can in
     does_by_form c.args.app.now c.args.machine.now c.work.new.machine (g.L.Log.logged c.args.log.now)
     (g.L.Log.logged c.work.new.log) c.args.task c.args.op.now (Work c.in-Work.ticks) c.in-Work.is
-    c.requires.awake (λ s. refl) refl 65 all_within can.tick.advance.agrees c.work.ensures.does
+    c.requires.awake (λ s. refl) refl 337 all_within can.tick.advance.agrees c.work.ensures.does
 
 pub returns-in-Do-clause-does : goal.returns-in-Do-clause-does
 returns-in-Do-clause-does g c =
     let can = subst (CanOp c.args.app.now c.args.machine.now c.args.task) c.in-Do.is c.requires.can in
-    does_by_form c.args.app.now c.args.machine.now c.do_by_value.new.machine (g.L.Log.logged c.args.log.now)
-    (g.L.Log.logged c.do_by_value.new.log) c.args.task c.args.op.now (Do c.in-Do.object c.in-Do.access)
-    c.in-Do.is c.requires.awake (λ s. refl) refl 2 two_within can.tick.advance.agrees c.do_by_value.ensures
+    does_by_form c.args.app.now c.args.machine.now c.do_at_once.new.machine (g.L.Log.logged c.args.log.now)
+    (g.L.Log.logged c.do_at_once.new.log) c.args.task c.args.op.now (Do c.in-Do.object c.in-Do.access)
+    c.in-Do.is c.requires.awake (λ s. refl) refl 2 two_within can.tick.advance.agrees c.do_at_once.ensures
 
 pub returns-in-End-clause-does : goal.returns-in-End-clause-does
 returns-in-End-clause-does g c =
     let can = subst (CanOp c.args.app.now c.args.machine.now c.args.task) c.in-End.is c.requires.can in
     any_by_form c.args.app.now c.args.machine.now c.close_turn.new.machine (g.L.Log.logged c.args.log.now)
-    (g.L.Log.logged c.args.log.now) c.args.task c.args.op.now EndLoop c.in-End.is c.requires.awake (λ s. refl) refl 65
-    all_within (moves_any 65 c.args.machine.now c.close_turn.new.machine
+    (g.L.Log.logged c.args.log.now) c.args.task c.args.op.now EndLoop c.in-End.is c.requires.awake (λ s. refl) refl 337
+    all_within (moves_any 337 c.args.machine.now c.close_turn.new.machine
     (g.L.Log.logged c.args.log.now) _ can.tick.advance.agrees c.close_turn.ensures.does)
 
 pub returns-in-If-clause-does : goal.returns-in-If-clause-does
@@ -37,8 +37,8 @@ returns-in-If-clause-does g c =
     let can = subst (CanOp c.args.app.now c.args.machine.now c.args.task) c.in-If.is c.requires.can in
     any_by_form c.args.app.now c.args.machine.now c.branch-machine.new.machine (g.L.Log.logged c.args.log.now)
     (g.L.Log.logged c.args.log.now) c.args.task c.args.op.now (If c.in-If.condition) c.in-If.is c.requires.awake (λ s. refl)
-    refl 65 all_within
-    (moves_any 65 c.args.machine.now c.branch-machine.new.machine
+    refl 337 all_within
+    (moves_any 337 c.args.machine.now c.branch-machine.new.machine
     (g.L.Log.logged c.args.log.now) _ can.tick.advance.agrees c.branch-machine.ensures.does)
 
 pub returns-in-Await-clause-does : goal.returns-in-Await-clause-does
@@ -96,8 +96,8 @@ go_on_by_value-requires g c =
       can = subst (CanOp c.args.app.now c.args.machine.now c.args.task) c.in-Await.is c.requires.can;
     }
 
-pub do_by_value-requires : goal.do_by_value-requires
-do_by_value-requires g c =
+pub do_at_once-requires : goal.do_at_once-requires
+do_at_once-requires g c =
     record {
       room = room_for_two (g.L.Log.logged c.args.log.now).room c.requires.room;
       can = subst (CanOp c.args.app.now c.args.machine.now c.args.task) c.in-Do.is c.requires.can;
@@ -166,8 +166,48 @@ returns-in-AwaitNotification-clause-letting g c = λ e.
       c.await_notification.ensures.silent begun,
     )
 
+pub returns-in-Delay-clause-does : goal.returns-in-Delay-clause-does
+returns-in-Delay-clause-does g c =
+    let can = subst (CanOp c.args.app.now c.args.machine.now c.args.task) c.in-Delay.is c.requires.can in
+    does_by_form c.args.app.now c.args.machine.now c.delay.new.machine (g.L.Log.logged c.args.log.now)
+    (g.L.Log.logged c.delay.new.log) c.args.task c.args.op.now (Delay c.in-Delay.ticks) c.in-Delay.is
+    c.requires.awake (λ s. refl) refl 2 two_within can.tick.advance.agrees c.delay.ensures
+
+pub returns-in-Yield-clause-does : goal.returns-in-Yield-clause-does
+returns-in-Yield-clause-does g c =
+    let can = subst (CanOp c.args.app.now c.args.machine.now c.args.task) c.in-Yield.is c.requires.can in
+    does_by_form c.args.app.now c.args.machine.now c.call_yield.new.machine (g.L.Log.logged c.args.log.now)
+    (g.L.Log.logged c.call_yield.new.log) c.args.task c.args.op.now Yield c.in-Yield.is
+    c.requires.awake (λ s. refl) refl 2 two_within can.tick.advance.agrees c.call_yield.ensures
+
+pub delay-requires : goal.delay-requires
+delay-requires g c =
+    record {
+      room = room_for_two (g.L.Log.logged c.args.log.now).room c.requires.room;
+      can = subst (CanOp c.args.app.now c.args.machine.now c.args.task) c.in-Delay.is c.requires.can;
+    }
+
+pub call_yield-requires : goal.call_yield-requires
+call_yield-requires g c =
+    record {
+      room = room_for_two (g.L.Log.logged c.args.log.now).room c.requires.room;
+      can = subst (CanOp c.args.app.now c.args.machine.now c.args.task) c.in-Yield.is c.requires.can;
+    }
+
+pub returns-in-Time-clause-does : goal.returns-in-Time-clause-does
+returns-in-Time-clause-does g c =
+    let can = subst (CanOp c.args.app.now c.args.machine.now c.args.task) c.in-Time.is c.requires.can in
+    does_by_form c.args.app.now c.args.machine.now c.time.new.machine (g.L.Log.logged c.args.log.now)
+    (g.L.Log.logged c.time.new.log) c.args.task c.args.op.now Time c.in-Time.is c.requires.awake
+    (λ s. refl) refl 1 one_within can.tick.advance.agrees c.time.ensures.does
+
+pub time-requires : goal.time-requires
+time-requires g c =
+    let can = subst (CanOp c.args.app.now c.args.machine.now c.args.task) c.in-Time.is c.requires.can in
+    record { room = room_for_one (g.L.Log.logged c.args.log.now).room c.requires.room; runs = can.runs }
+
 pub act_seldom-requires-clause-seldom : goal.act_seldom-requires-clause-seldom
 act_seldom-requires-clause-seldom g c =
-    seldom c.args.op.now c.in_default.not-Work c.in_default.not-Await c.in_default.not-Do c.in_default.not-SetBits
-    c.in_default.not-WaitBits c.in_default.not-Notify c.in_default.not-AwaitNotification c.in_default.not-End
-    c.in_default.not-If c.in_default.not-Value
+    seldom c.args.op.now c.in_default.not-Work c.in_default.not-Delay c.in_default.not-Yield c.in_default.not-Time
+    c.in_default.not-Await c.in_default.not-Do c.in_default.not-SetBits c.in_default.not-WaitBits c.in_default.not-Notify
+    c.in_default.not-AwaitNotification c.in_default.not-End c.in_default.not-If c.in_default.not-Value

@@ -1,23 +1,17 @@
 use Rattle.std.proofs.Common.{arith, refl, subst}
-use Rattle.model.specs.declared.op.Op.TheVariants.{Delay, DelayUntil, Yield, Time, Mark, Expect, Repeat}
+use Rattle.model.specs.declared.op.Op.TheVariants.{DelayUntil, Mark, Expect, Repeat}
 use Rattle.model.specs.declared.op.Op.TheVariants.{Else, EndIf, Break, Stamp, Since, MessagesWaiting, SpacesAvailable}
 use Rattle.model.specs.declared.op.Op.TheVariants.{ClearBits, GetBits}
 use Rattle.model.specs.declared.op.Op.TheVariants.{ClearNotification, Suspend, Resume, ResumeAll, NextCommand}
 use Rattle.model.specs.declared.op.Op.TheVariants.{ExitCritical, Obey}
+use Rattle.model.specs.declared.op.Op.TheVariants as op
 use Rattle.model.specs.declared.event.Misuse.TheVariants.{NotSuspended, NotCritical}
 use Rattle.kernel.specs.Can.{CanOp}
 use Rattle.machine.specs.StandsFor.Stands.{Placed}
-use Rattle.kernel.proofs.Held.{misused_at, not_suspended, not_critical}
+use Rattle.kernel.proofs.Held.{moves_up, misused_at, not_suspended, not_critical}
 use Rattle.kernel.proofs.Acted.{all_within, any_by_form, does_by_form, one_within, room_for_one, room_for_two, two_within}
 use Rattle.machine.proofs.Either.{does_any, does_more, moves_any, not_by_task}
 use Rattle.kernel.proofs.acting.act_seldom.Goals as goal
-
-pub returns-in-Delay-clause-does : goal.returns-in-Delay-clause-does
-returns-in-Delay-clause-does g c =
-    let can = subst (CanOp c.args.app.now c.args.machine.now c.args.task) c.in-Delay.is c.requires.can in
-    does_by_form c.args.app.now c.args.machine.now c.delay.new.machine (g.L.Log.logged c.args.log.now)
-    (g.L.Log.logged c.delay.new.log) c.args.task c.args.op.now (Delay c.in-Delay.ticks) c.in-Delay.is
-    c.requires.awake (λ s. refl) refl 2 two_within can.tick.advance.agrees c.delay.ensures
 
 pub returns-in-DelayUntil-clause-does : goal.returns-in-DelayUntil-clause-does
 returns-in-DelayUntil-clause-does g c =
@@ -25,20 +19,6 @@ returns-in-DelayUntil-clause-does g c =
     does_by_form c.args.app.now c.args.machine.now c.delay_until.new.machine (g.L.Log.logged c.args.log.now)
     (g.L.Log.logged c.delay_until.new.log) c.args.task c.args.op.now (DelayUntil c.in-DelayUntil.ticks)
     c.in-DelayUntil.is c.requires.awake (λ s. refl) refl 1 one_within can.tick.advance.agrees c.delay_until.ensures
-
-pub returns-in-Yield-clause-does : goal.returns-in-Yield-clause-does
-returns-in-Yield-clause-does g c =
-    let can = subst (CanOp c.args.app.now c.args.machine.now c.args.task) c.in-Yield.is c.requires.can in
-    does_by_form c.args.app.now c.args.machine.now c.call_yield.new.machine (g.L.Log.logged c.args.log.now)
-    (g.L.Log.logged c.call_yield.new.log) c.args.task c.args.op.now Yield c.in-Yield.is
-    c.requires.awake (λ s. refl) refl 2 two_within can.tick.advance.agrees c.call_yield.ensures
-
-pub returns-in-Time-clause-does : goal.returns-in-Time-clause-does
-returns-in-Time-clause-does g c =
-    let can = subst (CanOp c.args.app.now c.args.machine.now c.args.task) c.in-Time.is c.requires.can in
-    does_by_form c.args.app.now c.args.machine.now c.time.new.machine (g.L.Log.logged c.args.log.now)
-    (g.L.Log.logged c.time.new.log) c.args.task c.args.op.now Time c.in-Time.is c.requires.awake
-    (λ s. refl) refl 1 one_within can.tick.advance.agrees c.time.ensures.does
 
 pub returns-in-Mark-clause-does : goal.returns-in-Mark-clause-does
 returns-in-Mark-clause-does g c =
@@ -51,8 +31,8 @@ pub returns-in-Stamp-clause-does : goal.returns-in-Stamp-clause-does
 returns-in-Stamp-clause-does g c =
     let can = subst (CanOp c.args.app.now c.args.machine.now c.args.task) c.in-Stamp.is c.requires.can in
     any_by_form c.args.app.now c.args.machine.now c.stamp.new.machine (g.L.Log.logged c.args.log.now)
-    (g.L.Log.logged c.args.log.now) c.args.task c.args.op.now Stamp c.in-Stamp.is c.requires.awake (λ s. refl) refl 65
-    all_within (moves_any 65 c.args.machine.now c.stamp.new.machine
+    (g.L.Log.logged c.args.log.now) c.args.task c.args.op.now Stamp c.in-Stamp.is c.requires.awake (λ s. refl) refl 337
+    all_within (moves_any 337 c.args.machine.now c.stamp.new.machine
     (g.L.Log.logged c.args.log.now) _ can.tick.advance.agrees c.stamp.ensures.does)
 
 pub returns-in-Since-clause-does : goal.returns-in-Since-clause-does
@@ -81,8 +61,8 @@ returns-in-Expect-clause-does g c =
     let can = subst (CanOp c.args.app.now c.args.machine.now c.args.task) c.in-Expect.is c.requires.can in
     any_by_form c.args.app.now c.args.machine.now c.expect.new.machine (g.L.Log.logged c.args.log.now)
     (g.L.Log.logged c.args.log.now) c.args.task c.args.op.now (Expect c.in-Expect.condition) c.in-Expect.is c.requires.awake
-    (λ s. refl) refl 65 all_within
-    (moves_any 65 c.args.machine.now c.expect.new.machine
+    (λ s. refl) refl 337 all_within
+    (moves_any 337 c.args.machine.now c.expect.new.machine
     (g.L.Log.logged c.args.log.now) _ can.tick.advance.agrees c.expect.ensures.does)
 
 pub returns-in-Repeat-clause-does : goal.returns-in-Repeat-clause-does
@@ -90,38 +70,38 @@ returns-in-Repeat-clause-does g c =
     let can = subst (CanOp c.args.app.now c.args.machine.now c.args.task) c.in-Repeat.is c.requires.can in
     any_by_form c.args.app.now c.args.machine.now c.open_loop.new.machine (g.L.Log.logged c.args.log.now)
     (g.L.Log.logged c.args.log.now) c.args.task c.args.op.now (Repeat c.in-Repeat.turns) c.in-Repeat.is c.requires.awake
-    (λ s. refl) refl 65 all_within
-    (moves_any 65 c.args.machine.now c.open_loop.new.machine
+    (λ s. refl) refl 337 all_within
+    (moves_any 337 c.args.machine.now c.open_loop.new.machine
     (g.L.Log.logged c.args.log.now) _ can.tick.advance.agrees c.open_loop.ensures.does)
 
 pub returns-in-Else-clause-does : goal.returns-in-Else-clause-does
 returns-in-Else-clause-does g c =
     let can = subst (CanOp c.args.app.now c.args.machine.now c.args.task) c.in-Else.is c.requires.can in
     any_by_form c.args.app.now c.args.machine.now c.skip_branch.new.machine (g.L.Log.logged c.args.log.now)
-    (g.L.Log.logged c.args.log.now) c.args.task c.args.op.now Else c.in-Else.is c.requires.awake (λ s. refl) refl 65 all_within
-    (moves_any 65 c.args.machine.now c.skip_branch.new.machine
+    (g.L.Log.logged c.args.log.now) c.args.task c.args.op.now Else c.in-Else.is c.requires.awake (λ s. refl) refl 337 all_within
+    (moves_any 337 c.args.machine.now c.skip_branch.new.machine
     (g.L.Log.logged c.args.log.now) _ can.tick.advance.agrees c.skip_branch.ensures.does)
 
 pub returns-in-EndIf-clause-does : goal.returns-in-EndIf-clause-does
 returns-in-EndIf-clause-does g c =
     let can = subst (CanOp c.args.app.now c.args.machine.now c.args.task) c.in-EndIf.is c.requires.can in
     any_by_form c.args.app.now c.args.machine.now c.end_if.new.machine (g.L.Log.logged c.args.log.now)
-    (g.L.Log.logged c.args.log.now) c.args.task c.args.op.now EndIf c.in-EndIf.is c.requires.awake (λ s. refl) refl 65
-    all_within (moves_any 65 c.args.machine.now c.end_if.new.machine
+    (g.L.Log.logged c.args.log.now) c.args.task c.args.op.now EndIf c.in-EndIf.is c.requires.awake (λ s. refl) refl 337
+    all_within (moves_any 337 c.args.machine.now c.end_if.new.machine
     (g.L.Log.logged c.args.log.now) _ can.tick.advance.agrees c.end_if.ensures.does)
 
 pub returns-in-Break-clause-does : goal.returns-in-Break-clause-does
 returns-in-Break-clause-does g c =
     let can = subst (CanOp c.args.app.now c.args.machine.now c.args.task) c.in-Break.is c.requires.can in
     any_by_form c.args.app.now c.args.machine.now c.leave_loop.new.machine (g.L.Log.logged c.args.log.now)
-    (g.L.Log.logged c.args.log.now) c.args.task c.args.op.now Break c.in-Break.is c.requires.awake (λ s. refl) refl 65
-    all_within (moves_any 65 c.args.machine.now c.leave_loop.new.machine
+    (g.L.Log.logged c.args.log.now) c.args.task c.args.op.now Break c.in-Break.is c.requires.awake (λ s. refl) refl 337
+    all_within (moves_any 337 c.args.machine.now c.leave_loop.new.machine
     (g.L.Log.logged c.args.log.now) _ can.tick.advance.agrees c.leave_loop.ensures.does)
 
 pub returns-in-GiveMutex-clause-does : goal.returns-in-GiveMutex-clause-does
 returns-in-GiveMutex-clause-does g c =
     let can = rw c.in-GiveMutex.is at c.requires.can in
-    rw c.in-GiveMutex.is (does_more 2 65 _ _ _ _ _ two_within (does_any 2 _ _ _ _ _ can.tick.advance.agrees c.give_mutex.ensures))
+    rw c.in-GiveMutex.is (does_more 2 337 _ _ _ _ _ two_within (does_any 2 _ _ _ _ _ can.tick.advance.agrees c.give_mutex.ensures))
 
 pub returns-in-ClearBits-clause-does : goal.returns-in-ClearBits-clause-does
 returns-in-ClearBits-clause-does g c =
@@ -167,12 +147,12 @@ pub returns-in-SuspendAll-clause-does : goal.returns-in-SuspendAll-clause-does
 returns-in-SuspendAll-clause-does g c =
     let can = rw c.in-SuspendAll.is at c.requires.can in
     rw c.in-SuspendAll.is
-    (does_more 1 65 _ _ _ _ _ one_within (does_any 1 _ _ _ _ _ can.tick.advance.agrees c.call_suspend_all.ensures))
+    (does_more 1 337 _ _ _ _ _ one_within (does_any 1 _ _ _ _ _ can.tick.advance.agrees c.call_suspend_all.ensures))
 
 pub returns-in-ResumeAll-clause-does : goal.returns-in-ResumeAll-clause-does
 returns-in-ResumeAll-clause-does g c =
     let can = rw c.in-ResumeAll.is at c.requires.can in
-    rw c.in-ResumeAll.is (does_any 65 _ _ _ _ _ can.tick.advance.agrees (record {
+    rw c.in-ResumeAll.is (does_any 337 _ _ _ _ _ can.tick.advance.agrees (record {
       at = λ s h.
           misused_at c.args.app.now c.misuse.new.self _ s c.args.task ResumeAll NotSuspended
           (not_suspended s c.args.task (not_by_task c.args.machine.now s (Placed h.stands) c.requires.awake))
@@ -185,12 +165,12 @@ pub returns-in-EnterCritical-clause-does : goal.returns-in-EnterCritical-clause-
 returns-in-EnterCritical-clause-does g c =
     let can = rw c.in-EnterCritical.is at c.requires.can in
     rw c.in-EnterCritical.is
-    (moves_any 65 _ _ (g.L.Log.logged c.args.log.now) _ can.tick.advance.agrees c.call_enter_critical.ensures)
+    (moves_any 337 _ _ (g.L.Log.logged c.args.log.now) _ can.tick.advance.agrees c.call_enter_critical.ensures)
 
 pub returns-in-ExitCritical-clause-does : goal.returns-in-ExitCritical-clause-does
 returns-in-ExitCritical-clause-does g c =
     let can = rw c.in-ExitCritical.is at c.requires.can in
-    rw c.in-ExitCritical.is (does_any 65 _ _ _ _ _ can.tick.advance.agrees (record {
+    rw c.in-ExitCritical.is (does_any 337 _ _ _ _ _ can.tick.advance.agrees (record {
       at = λ s h.
           misused_at c.args.app.now c.misuse-in-ExitCritical.new.self _ s c.args.task ExitCritical NotCritical
           (not_critical s c.args.task (not_by_task c.args.machine.now s (Placed h.stands) c.requires.awake))
@@ -199,15 +179,20 @@ returns-in-ExitCritical-clause-does g c =
       before = refl;
     }))
 
+pub returns-in-Source-clause-does : goal.returns-in-Source-clause-does
+returns-in-Source-clause-does g c =
+    let can = subst (CanOp c.args.app.now c.args.machine.now c.args.task) c.in-Source.is c.requires.can in
+    does_by_form c.args.app.now c.args.machine.now c.control.new.machine (g.L.Log.logged c.args.log.now)
+    (g.L.Log.logged c.args.log.now) c.args.task c.args.op.now (op.Source c.in-Source.handler c.in-Source.op) c.in-Source.is
+    c.requires.awake (λ s. refl) refl 1 one_within can.tick.advance.agrees
+    (moves_up 1 _ _ (g.L.Log.logged c.args.log.now) _ c.control.ensures)
+
+pub control-requires : goal.control-requires
+control-requires g c =
+    let can = subst (CanOp c.args.app.now c.args.machine.now c.args.task) c.in-Source.is c.requires.can in can.runs
+
 pub call_enter_critical-requires : goal.call_enter_critical-requires
 call_enter_critical-requires g c = subst (CanOp c.args.app.now c.args.machine.now c.args.task) c.in-EnterCritical.is c.requires.can
-
-pub delay-requires : goal.delay-requires
-delay-requires g c =
-    record {
-      room = room_for_two (g.L.Log.logged c.args.log.now).room c.requires.room;
-      can = subst (CanOp c.args.app.now c.args.machine.now c.args.task) c.in-Delay.is c.requires.can;
-    }
 
 pub delay_until-requires : goal.delay_until-requires
 delay_until-requires g c =
@@ -215,18 +200,6 @@ delay_until-requires g c =
       room = room_for_one (g.L.Log.logged c.args.log.now).room c.requires.room;
       can = subst (CanOp c.args.app.now c.args.machine.now c.args.task) c.in-DelayUntil.is c.requires.can;
     }
-
-pub call_yield-requires : goal.call_yield-requires
-call_yield-requires g c =
-    record {
-      room = room_for_two (g.L.Log.logged c.args.log.now).room c.requires.room;
-      can = subst (CanOp c.args.app.now c.args.machine.now c.args.task) c.in-Yield.is c.requires.can;
-    }
-
-pub time-requires : goal.time-requires
-time-requires g c =
-    let can = subst (CanOp c.args.app.now c.args.machine.now c.args.task) c.in-Time.is c.requires.can in
-    record { room = room_for_one (g.L.Log.logged c.args.log.now).room c.requires.room; runs = can.runs }
 
 pub mark-requires : goal.mark-requires
 mark-requires g c =

@@ -234,3 +234,25 @@ returns-in-Expect-clause-any g c = elim c.in-Expect.is [
         few = omega arith;
         before = refl;
       }
+
+-- ---- an op on an interrupt source
+
+pub returns-in-Source-clause-does : goal.returns-in-Source-clause-does
+returns-in-Source-clause-does g c = record {
+  at = λ s h. rw c.in-Source.is (c.do_to_source.ensures.does _ s h);
+  few = omega arith;
+  before = refl;
+}
+
+pub returns-in-Source-clause-any : goal.returns-in-Source-clause-any
+returns-in-Source-clause-any g c = record {
+  at = λ s h. rw c.in-Source.is (c.do_to_source.ensures.any _ s h);
+  few = omega arith;
+  before = refl;
+}
+
+pub returns-in-Source-clause-leaves : goal.returns-in-Source-clause-leaves
+returns-in-Source-clause-leaves g c = rw c.do_to_source.ensures.rest (record { depth = refl; objects = λ o a h. h })
+
+pub returns-in-Source-clause-answer : goal.returns-in-Source-clause-answer
+returns-in-Source-clause-answer g c = λ s h. rw c.in-Source.is refl

@@ -15,7 +15,7 @@ invariant-steps l = record {
   at : IsAt l.app l.kernel l.task l.op;
   soon : l.kernel.steps + 1 < l.until;
   told : l.trail.told ≡ [];
-  room : 128 ≤ l.trail.room;
+  room : 512 ≤ l.trail.room;
 }
 
 abbrev pub decreases-steps : goal.decreases-steps

@@ -18,8 +18,8 @@ returns-in-Some g c = λ limits.
     subst P (c.behind-machine.view_is ∙ c.progress.ensures) c.in-Some.ensures.some) in
     acts c.args.app.now limits c.args.machine.now c.args.task c.requires.runs c.in-Some.op.now at
     c.act_unless_misuse.new.machine _ _
-    (does_more 64 65 _ _ _ _ _ (omega arith)
-    (does_any 64 _ _ _ _ _ (c.requires.can c.in-Some.op.now at).agrees c.act_unless_misuse.ensures))
+    (does_more 336 337 _ _ _ _ _ (omega arith)
+    (does_any 336 _ _ _ _ _ (c.requires.can c.in-Some.op.now at).agrees c.act_unless_misuse.ensures))
 
 pub returns-in_default : goal.returns-in_default
 returns-in_default g c = λ limits.

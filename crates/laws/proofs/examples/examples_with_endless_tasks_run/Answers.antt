@@ -2,7 +2,7 @@ use Rattle.std.proofs.Common.{refl}
 use Rattle.model.specs.Switching.{to_back, dispatch, choose, yield_now, preempt, slice, settle}
 use Rattle.model.specs.Waiting.{wait_in, set_deadline, wake_best, unlock}
 use Rattle.model.specs.Time.{wake_due, advance, increment_tick, sleep, set_previous_wake}
-use Rattle.model.specs.Handlers.{handle, serve, inject, interrupt, tick_interrupt, idle, serve_pending}
+use Rattle.model.specs.Handlers.{come, handle, serve, inject, interrupt, tick_interrupt, idle, serve_pending}
 use Rattle.model.specs.Ops.{go_to, answer, use_up, delay, delay_until, expect, open_loop, close_turn, branch, skip_branch}
 use Rattle.model.specs.Ops.{leave_loop}
 use Rattle.model.specs.Objects.{fulfil, attempt}
@@ -16,7 +16,7 @@ use Rattle.laws.proofs.examples.examples_with_endless_tasks_run.Goals as goal
 
 pub returns : goal.returns
 unfolding to_back dispatch choose yield_now preempt slice settle wait_in set_deadline wake_best unlock wake_due advance
-    increment_tick handle serve inject interrupt tick_interrupt idle sleep set_previous_wake go_to answer use_up delay
+    increment_tick come handle serve inject interrupt tick_interrupt idle sleep set_previous_wake go_to answer use_up delay
     delay_until expect open_loop close_turn branch skip_branch leave_loop fulfil attempt inherit after_timeout try
     decide leave_call suspend_all resume_scheduler resume_all judge serve_pending before_step step nobody_ready ready_at_reset reset
 returns c = (

@@ -2,7 +2,7 @@ use Rattle.std.proofs.Common.{refl}
 use Rattle.model.specs.Switching.{to_back, dispatch, choose, yield_now, preempt, slice, settle}
 use Rattle.model.specs.Waiting.{wait_in, set_deadline, wake_best, unlock}
 use Rattle.model.specs.Time.{wake_due, advance, increment_tick, jump, sleep, set_previous_wake}
-use Rattle.model.specs.Handlers.{handle, serve, inject, interrupt, tick_interrupt, idle, serve_pending}
+use Rattle.model.specs.Handlers.{come, handle, serve, inject, interrupt, tick_interrupt, idle, serve_pending}
 use Rattle.model.specs.Ops.{go_to, answer, use_up, delay, delay_until, expect, stamp, since, open_loop, close_turn, branch}
 use Rattle.model.specs.Ops.{skip_branch, leave_loop}
 use Rattle.model.specs.Objects.{fulfil, attempt}
@@ -20,7 +20,7 @@ use Rattle.laws.proofs.examples.examples_with_handlers_that_look_run.Goals as go
 
 pub returns : goal.returns
 unfolding to_back dispatch choose yield_now preempt slice settle wait_in set_deadline wake_best unlock wake_due advance
-    increment_tick jump handle serve inject interrupt tick_interrupt idle sleep set_previous_wake go_to answer use_up delay
+    increment_tick jump come handle serve inject interrupt tick_interrupt idle sleep set_previous_wake go_to answer use_up delay
     delay_until expect stamp since open_loop close_turn branch skip_branch leave_loop fulfil attempt inherit after_timeout
     try decide leave_call suspend_all resume_scheduler resume_all judge serve_pending before_step step nobody_ready ready_at_reset
     reset

@@ -2,7 +2,7 @@ use Rattle.std.proofs.Common.{refl}
 use Rattle.model.specs.Switching.{to_back, dispatch, choose, yield_now, preempt, slice, settle}
 use Rattle.model.specs.Waiting.{wait_in, set_deadline, wake_best, unlock}
 use Rattle.model.specs.Time.{wake_due, advance, increment_tick, apply_one, sleep, set_previous_wake}
-use Rattle.model.specs.Handlers.{handle, serve, inject, interrupt, tick_interrupt, idle, serve_pending}
+use Rattle.model.specs.Handlers.{come, handle, serve, inject, interrupt, tick_interrupt, idle, serve_pending}
 use Rattle.model.specs.Ops.{go_to, answer, use_up, delay, delay_until, expect, open_loop, close_turn}
 use Rattle.model.specs.Objects.{fulfil, attempt}
 use Rattle.model.specs.Mutexes.{set_priority, inherit, after_timeout, disinherit, give_mutex}
@@ -17,10 +17,10 @@ use Rattle.laws.proofs.examples.examples_with_holds_run.Goals as goal
 
 pub returns : goal.returns
 unfolding to_back dispatch choose yield_now preempt slice settle wait_in set_deadline wake_best unlock wake_due advance
-    increment_tick apply_one sleep set_previous_wake handle serve inject interrupt tick_interrupt idle go_to answer use_up delay
-    delay_until expect open_loop close_turn fulfil attempt set_priority inherit after_timeout disinherit give_mutex try
-    decide leave_call do_now set begin_set clear answer_bits wait_for_bits begin_bits_wait check suspend resume call_suspend
-    call_resume suspend_all resume_scheduler resume_all judge serve_pending before_step step nobody_ready ready_at_reset reset
+    increment_tick apply_one sleep set_previous_wake come handle serve inject interrupt tick_interrupt idle go_to answer use_up
+    delay delay_until expect open_loop close_turn fulfil attempt set_priority inherit after_timeout disinherit give_mutex try decide
+    leave_call do_now set begin_set clear answer_bits wait_for_bits begin_bits_wait check suspend resume call_suspend call_resume
+    suspend_all resume_scheduler resume_all judge serve_pending before_step step nobody_ready ready_at_reset reset
 returns c = (
   is_run one_set_wakes_two.app one_set_wakes_two.plan one_set_wakes_two.app.limits one_set_wakes_two.run refl refl refl refl,
   (

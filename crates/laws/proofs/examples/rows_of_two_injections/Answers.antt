@@ -1,8 +1,8 @@
-use Rattle.std.proofs.Common.{[], refl, arith}
+use Rattle.std.proofs.Common.{[], refl}
 use Rattle.model.specs.Switching.{to_back, dispatch, choose, yield_now, preempt, slice, settle}
 use Rattle.model.specs.Waiting.{wait_in, set_deadline, wake_best, unlock}
 use Rattle.model.specs.Time.{wake_due, advance, increment_tick, sleep, set_previous_wake}
-use Rattle.model.specs.Handlers.{handle, serve, inject, interrupt, tick_interrupt, idle, serve_pending}
+use Rattle.model.specs.Handlers.{come, handle, serve, inject, interrupt, tick_interrupt, idle, serve_pending}
 use Rattle.model.specs.Ops.{go_to, answer, use_up, delay, delay_until, expect, open_loop, close_turn}
 use Rattle.model.specs.Objects.{fulfil, attempt}
 use Rattle.model.specs.Mutexes.{inherit, after_timeout}
@@ -15,39 +15,39 @@ use Rattle.laws.proofs.examples.rows_of_two_injections.Goals as goal
 
 base_is_run : IsRun one_receive [] one_receive.limits past_the_end.row
 unfolding to_back dispatch choose yield_now preempt slice settle wait_in set_deadline wake_best unlock
-    wake_due advance increment_tick handle serve inject interrupt tick_interrupt idle sleep set_previous_wake
+    wake_due advance increment_tick come handle serve inject interrupt tick_interrupt idle sleep set_previous_wake
     go_to answer use_up delay delay_until expect open_loop close_turn fulfil attempt inherit
     after_timeout try decide leave_call judge serve_pending before_step step nobody_ready ready_at_reset reset
 base_is_run = is_run one_receive [] one_receive.limits past_the_end.row refl refl refl refl
 
 pub returns : goal.returns
 unfolding to_back dispatch choose yield_now preempt slice settle wait_in set_deadline wake_best unlock
-    wake_due advance increment_tick handle serve inject interrupt tick_interrupt idle sleep set_previous_wake
+    wake_due advance increment_tick come handle serve inject interrupt tick_interrupt idle sleep set_previous_wake
     go_to answer use_up delay delay_until expect open_loop close_turn fulfil attempt inherit
     after_timeout try decide leave_call judge serve_pending before_step step nobody_ready ready_at_reset reset
 returns c = (
   (
     past_the_end.row,
     base_is_run,
-    omega arith,
+    refl,
     is_run one_receive twice.point one_receive.limits twice.row refl refl refl refl,
   ),
   (
     (
       past_the_end.row,
       base_is_run,
-      omega arith,
+      refl,
       is_run one_receive past_the_base_run.point one_receive.limits past_the_base_run.row refl refl refl refl,
     ),
     (
       (
         past_the_end.row,
         base_is_run,
-        omega arith,
+        refl,
         is_run one_receive past_the_row.point one_receive.limits past_the_row.row refl refl refl refl,
       ),
       (
-        (is_run one_receive [] one_receive.limits from_the_end_on.row refl refl refl refl, omega arith),
+        (is_run one_receive [] one_receive.limits from_the_end_on.row refl refl refl refl, refl),
         tt,
       ),
     ),

@@ -1,6 +1,6 @@
 use Rattle.std.proofs.Common.{◌≡◌, ℕ, [], ◌∷◌, length, refl}
 use Rattle.model.specs.Switching.{choose, dispatch, preempt, settle}
-use Rattle.model.specs.Handlers.{handle, inject, serve, serve_pending}
+use Rattle.model.specs.Handlers.{come, handle, inject, serve, serve_pending}
 use Rattle.model.specs.Ops.{go_to}
 use Rattle.model.specs.Step.{before_step, judge, nobody_ready, ready_at_reset, reset, step}
 use Rattle.model.specs.Placements.{begun, ended}
@@ -18,6 +18,6 @@ had most number none long = record {
 }
 
 pub returns : goal.returns
-unfolding choose dispatch preempt settle handle inject serve serve_pending go_to before_step judge nobody_ready ready_at_reset reset
-    step
+unfolding choose dispatch preempt settle come handle inject serve serve_pending go_to before_step judge nobody_ready ready_at_reset
+    reset step
 returns c = record { none = had 0 1 refl refl; one = had 1 3 refl refl; two = had 2 6 refl refl; three = had 3 10 refl refl }

@@ -2,4 +2,4 @@ use Rattle.laws.proofs.Inside.{pended_once}
 use Rattle.laws.proofs.sections.pending_handlers_come_once.Goals as goal
 
 pub returns : goal.returns
-returns c = λ handler s. pended_once handler s
+returns c = pended_once

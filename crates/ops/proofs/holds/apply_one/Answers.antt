@@ -10,7 +10,8 @@ advance-requires c =
     let s = can.agrees.0 in
     let back =
     released c.args.machine.now s.log s (record { stands = can.agrees.1; log = refl })
-    c.release.new.self (c.release.ensures.stands s can.agrees.1.rest.clock) in
+    c.release.new.self (let held = can.agrees.1.rest.clock.held in let some = c.requires.some in omega (arith, held, some))
+    (c.release.ensures.stands s can.agrees.1.rest.clock) in
     record {
       agrees = (_, back.stands);
       free = can.free;
@@ -25,7 +26,8 @@ returns-clause-does c = λ log s h.
     applied_now c.advance.new.self log s
     (ticks_not_held c.args.machine.now.sched s h.stands.sched c.requires.can.depth) (omega arith)
     (c.advance.ensures.does log _
-    (released c.args.machine.now log s h c.release.new.self (c.release.ensures.stands s h.stands.rest.clock)))
+    (released c.args.machine.now log s h c.release.new.self
+    (let held = h.stands.rest.clock.held in omega (arith, held, some)) (c.release.ensures.stands s h.stands.rest.clock)))
 
 pub returns-clause-leaves : goal.returns-clause-leaves
 returns-clause-leaves c =

@@ -3,7 +3,6 @@ use Rattle.std.specs.List.{flat_map}
 use Rattle.std.proofs.Common.{◌++◌, List, sym, subst, take}
 use Rattle.byte_io.proofs.Sending.{Adds_stopped, Adds_two}
 use Rattle.model.specs.declared.event.Event.{Event}
-use Rattle.model.specs.Points.{first_step}
 use Rattle.report.specs.Text.{event_text, head_text}
 use Rattle.report.specs.declared.title.Title.TheVariants as title
 use Rattle.rows.specs.Links.{told_at, AreLegs}
@@ -23,7 +22,7 @@ returns-in_err-begin_row-clause-text g c =
     let base = c.args.base.now in
     let told = told_at base.events (store_of c.args.part.now) row.told in
     let head =
-    head_text app (title.Row c.args.number row.point (nat_lt (first_step row.point) base.steps)) row.steps row.ticks row.end in
+    head_text app (title.Row c.args.number row.point row.reached) row.steps row.ticks row.end in
     let first = rw (c.title_of-title.ensures, c.ending_of.ensures, c.requires.base) at c.in_err-begin_row.ensures.text in
     rw (row_parts f head (take row.shared base.events) told)
     (Adds_stopped _ _ _ (head ++ flat_map f (take row.shared base.events)) (flat_map f told) _ _ c.from_residual.ensures.0 first)
@@ -36,7 +35,7 @@ returns-clause-text g c =
     let base = c.args.base.now in
     let told = told_at base.events (store_of c.args.part.now) row.told in
     let head =
-    head_text app (title.Row c.args.number row.point (nat_lt (first_step row.point) base.steps)) row.steps row.ticks row.end in
+    head_text app (title.Row c.args.number row.point row.reached) row.steps row.ticks row.end in
     let first = rw (c.title_of-title.ensures, c.ending_of.ensures, c.requires.base) at c.in_ok-begin_row.ensures.text in
     let second = rw (c.in_ok-begin_row.ensures.app, c.requires.base) at c.add_told.ensures.text in
     rw (row_parts f head (take row.shared base.events) told)

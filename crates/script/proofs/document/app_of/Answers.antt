@@ -3,11 +3,11 @@ use Rattle.std.specs.Prelude.{codes, is_some, if◌then◌else◌}
 use Rattle.std.specs.List.{AllByRecursion}
 use Rattle.std.proofs.lemmas.Grind.{common_steps}
 use Rattle.std.proofs.lemmas.List.{length-map}
-use Rattle.model.specs.Application.{Application, Handler, of_file}
-use Rattle.model.specs.Scripts.{IsHandler, KnowsAll, most_name_bytes, most_handler_ops, most_objects}
+use Rattle.model.specs.Application.{Application, of_file}
+use Rattle.model.specs.Scripts.{IsHandler, KnowsAll, most_objects}
 use Rattle.toml.specs.View.{table_view}
 use Rattle.script.specs.Entries.{VariableEntry, RawIsr, Entries, HasEntries, isr_names, source_names, raw_view, entries_view}
-use Rattle.script.specs.Ops.{with_script, with_isr_ops, daemon_task}
+use Rattle.script.specs.Ops.{IsLimited, with_script, with_isr_ops, daemon_task}
 use Rattle.script.specs.Interrupts.{interrupts_named}
 use Rattle.script.specs.Points.{campaign_named}
 use Rattle.script.proofs.Daemons.{tasks_of_file, has_entries, daemon_formed}
@@ -15,9 +15,6 @@ use Rattle.script.proofs.Known.{known_tasks, known_handlers}
 use Rattle.script.proofs.Scripts.{tasks_nest}
 use Rattle.script.proofs.Formed.{AreInterrupts, ArePoints, taken_interrupts, are_interrupts, few_come, taken_points, are_entries}
 use Rattle.script.proofs.document.app_of.Goals as goal
-
-abbrev HasFewOps : Handler → Type 0
-HasFewOps h = (length h.name ≤ most_name_bytes) × (length h.ops ≤ most_handler_ops)
 
 pub parts_of-requires : goal.parts_of-requires
 parts_of-requires c = record {
@@ -56,7 +53,8 @@ new-requires c =
     ∙ sym (ap length of_handlers ∙ length-map entries.handlers (with_isr_ops entries)) in
     let has : HasEntries app entries =
     has_entries app entries parts.objects.0 parts.tasks.0 c.daemon_number.ensures c.group_count.ensures.count
-    (ap length parts.variables.0 ∙ length-map entries.variables (λ (v : VariableEntry). v.initial)) in
+    (ap length parts.variables.0 ∙ length-map entries.variables (λ (v : VariableEntry). v.initial))
+    (ap length of_handlers ∙ length-map entries.handlers (with_isr_ops entries)) in
     let interrupts : AreInterrupts (length app.handlers) app.interrupts =
     subst (λ n. AreInterrupts n app.interrupts) count
     (subst (AreInterrupts (length names)) (sym of_interrupts) (taken_interrupts names document c.in_ok-listed.ensures.0)) in
@@ -65,8 +63,8 @@ new-requires c =
     let points : ArePoints (length app.handlers + 1) app.points =
     subst (λ n. ArePoints n app.points) source_count
     (subst (ArePoints (length sources)) (sym of_points) (taken_points sources document c.in_ok-points.ensures.0)) in
-    let few : AllByRecursion HasFewOps (map (with_isr_ops entries) entries.handlers) =
-    subst (AllByRecursion HasFewOps) of_handlers parts.handlers.1 in
+    let few : AllByRecursion IsLimited (map (with_isr_ops entries) entries.handlers) =
+    subst (AllByRecursion IsLimited) of_handlers parts.handlers.1 in
     let some : 1 ≤ length entries.tasks =
     subst (λ n. 1 ≤ n) (sym (length-map c.args.entries.now.tasks.items raw_view)) c.requires.some in
     let task_count : length app.tasks ≡ length entries.tasks + length (daemon_task (length entries.objects) entries.daemon) =

@@ -1,9 +1,8 @@
-use Rattle.std.proofs.Common.{◌+◌, ◌≤◌, length, map, drop, sym, subst}
+use Rattle.std.proofs.Common.{◌+◌, ◌≤◌, map, drop, sym, subst}
 use Rattle.std.proofs.Math.Nat.{le_trans}
-use Rattle.model.specs.Application.{Handler}
-use Rattle.model.specs.Scripts.{most_name_bytes, most_handler_ops, most_handlers}
+use Rattle.model.specs.Scripts.{most_handlers}
 use Rattle.script.specs.Entries.{isr_view, entries_view}
-use Rattle.script.specs.Ops.{with_isr_ops}
+use Rattle.script.specs.Ops.{IsLimited, with_isr_ops}
 use Rattle.script.proofs.Steps.{left_in, one_made, all_grown, counted, none_left, all_made}
 use Rattle.script.proofs.ops.handlers_of.Goals as goal
 
@@ -25,9 +24,7 @@ loop-handler-preserved c =
           (with_isr_ops entries) (map (with_isr_ops entries) (map isr_view handlers))
           before after definition c.loop-handler.invariant.named c.in_ok-definition.ensures.handler new;
       formed =
-          all_grown definition before after new
-          (λ (h : Handler). (length h.name ≤ most_name_bytes) × (length h.ops ≤ most_handler_ops))
-          c.loop-handler.invariant.formed c.in_ok-definition.ensures.formed;
+          all_grown definition before after new IsLimited c.loop-handler.invariant.formed c.in_ok-definition.ensures.formed;
       count = counted definition before after new i c.loop-handler.invariant.count;
     }
 

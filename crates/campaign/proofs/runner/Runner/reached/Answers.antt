@@ -43,7 +43,7 @@ returns-clause-row c =
     reached_row c.args.app.now shelf.limits c.args.view shelf.base c.requires.shelf.is_base
     c.args.point.now (store_in c.args.self.now) mid over c.begin_row_after.new.kernel c.in_ok-begun.begun
     c.requires.legs begun.begun refl c.in_ok-rest.rest goes (ap (λ v. v.items) rest.legs)
-    (store_in c.close.new.self) begun.before c.requires.reached
+    (store_in c.close.new.self) begun.before c.requires.beyond c.requires.reached
     (sym c.shows_events.ensures ∙ c.if-not-shows_events.false)
     (ap all_of closed.trail) closed.legs _ c.len-from.ensures _ closed.link
 

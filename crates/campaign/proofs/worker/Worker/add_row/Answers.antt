@@ -1,7 +1,4 @@
-use Rattle.std.proofs.Common.{◌∙◌, ◌∷◌, [], List, ap, sym}
-use Rattle.std.specs.Prelude.{nat_lt}
-use Rattle.model.specs.declared.plan.Injection.{Injection}
-use Rattle.model.specs.Points.{first_step}
+use Rattle.std.proofs.Common.{◌∷◌, []}
 use Rattle.rows.specs.Report.{row_of}
 use Rattle.campaign.specs.Working.{counted, store_in}
 use Rattle.campaign.proofs.Keeping.{gains_one}
@@ -12,20 +9,18 @@ pub returns-clause-row : goal.returns-clause-row
 returns-clause-row c =
     let setup = c.args.setup.now in
     let shelf = setup.shelf.now in
-    let keeps = c.in_ok-end.ensures.row in
+    let keeps = c.in_ok-outcome.ensures.row in
     let store = store_in c.keep_row.new.self.runner in
     gains_one setup.app.now shelf.limits setup.view.now shelf.base c.args.point.now c.args.self.now.kept c.keep_row.new.self.kept
     (store_in c.args.self.now.runner) store
     (counted setup.tally.now c.args.counts.now.kinds) (counted setup.tally.now c.count.new.self.kinds) keeps.row keeps.gains
     keeps.rows_are
     (c.count.ensures (row_of shelf.base store keeps.row) setup.tally.now
-    (ap (λ (p : List Injection). nat_lt (first_step p) shelf.base.steps) keeps.gains.row.at_point
-    ∙ sym c.reaches-is_reached.ensures)
-    keeps.ends)
+    keeps.reached keeps.ends)
 
 pub returns-clause-known : goal.returns-clause-known
 returns-clause-known c =
     let setup = c.args.setup.now in
     let shelf = setup.shelf.now in
     knows_more setup.app.now shelf.limits setup.view.now shelf.base (c.args.point.now ∷ [])
-    _ _ _ _ _ _ _ _ c.requires.known (returns-clause-row c) c.in_ok-end.ensures.marks
+    _ _ _ _ _ _ _ _ c.requires.known (returns-clause-row c) c.in_ok-outcome.ensures.marks

@@ -8,4 +8,4 @@ returns-in-Some-clause-row c =
     let own = c.args.self.now in
     kept_again c.args.app.now shelf.limits c.args.view shelf.base c.args.point.now (store_in own.runner)
     own.kept c.repeat.new.self c.in-Some.number c.requires.known.legs c.requires.known.rows
-    c.in-Some.ensures c.in_ok-repeat.ensures c.at.result.now c.at.ensures
+    c.in-Some.ensures c.in_ok-repeat.ensures c.at.result.now c.at.ensures c.of-outcome.result c.of-outcome.ensures

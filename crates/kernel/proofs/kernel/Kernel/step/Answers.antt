@@ -17,3 +17,6 @@ invariant_of-self c = λ task behind.
     let going = subst (λ (k : Machine). Stands k c.requires.going.state) (sym c.self.view_is) c.requires.going.stands in
     let full = full_of c.step.new.machine _ (c.step.ensures.stands c.requires.going.state going) in
     get_or-eq_default c.step.new.machine.progress no_progress (omega (arith, full, behind))
+
+pub returns-clause-came : goal.returns-clause-came
+returns-clause-came c = λ s h. c.step.ensures.came s (subst (λ (k : Machine). Stands k s) (sym c.self.view_is) h)

@@ -1,7 +1,8 @@
-use Rattle.std.proofs.Common.{◌+◌, length, refl, ap, sym, ◌∙◌}
+use Rattle.std.proofs.Common.{◌+◌, length, map, get_or, refl, ap, sym, ◌∙◌}
 use Rattle.sched.specs.Schedule.{Schedule, is_suspended, lined_up}
 use Rattle.clock.specs.StandsFor.{tasks_at}
-use Rattle.model.specs.Step.{nobody_ready}
+use Rattle.model.specs.State.{no_source}
+use Rattle.model.specs.Step.{nobody_ready, source_at_reset}
 use Rattle.soundness.proofs.Reached.{reached_nobody}
 use Rattle.machine.proofs.Booting.{none_ready, none_due, priority_at, base_priority_at, objects_at_reset, nobody_awake-reset}
 use Rattle.machine.proofs.Booting.{none_placing, ended_reset, nobody_suspended, sources_at_reset}
@@ -44,7 +45,9 @@ returns-clause-stands c =
         };
         sources =
             sources_at_reset c.args.app.now c.well_formed-2.ensures.few_handlers c.new-7.result
-            (c.new-7.ensures.number ∙ ap (λ hs. length hs + 1) c.handlers.ensures) c.new-7.ensures.none
+            (c.new-7.ensures.number ∙ ap (λ hs. length hs + 1) c.handlers.ensures)
+            (λ source.
+            c.new-7.ensures.each source ∙ ap (λ hs. get_or (map source_at_reset hs) source no_source) c.handlers.ensures)
             c.new-7.ensures.full;
         notifications = record { same = c.new-5.ensures.none; full = c.new-5.ensures.full };
         variables = c.new-6.ensures ∙ c.variables.ensures;

@@ -1,4 +1,4 @@
-use Rattle.std.proofs.Common.{◌≡◌, ◌∙◌, [], ◌∷◌, ℕ, Bool, Option, None, Result, map, length, ap, sym, subst}
+use Rattle.std.proofs.Common.{◌≡◌, ◌∙◌, [], ◌∷◌, ℕ, Bool, false, Option, None, Result, map, length, ap, sym, subst}
 use Rattle.std.specs.Option.{option_and_then}
 use Rattle.toml.specs.Data.{Members}
 use Rattle.toml.specs.View.{table_view}
@@ -7,7 +7,7 @@ use Rattle.script.specs.declared.fault.Fault.{Fault}
 use Rattle.script.specs.declared.fault.LoadError.{LoadError}
 use Rattle.script.specs.declared.place.Section.TheVariants as section
 use Rattle.script.specs.Faults.{Loads, first_fault, at_section}
-use Rattle.script.specs.Values.{data_of, number_fault, number_or, boolean_fault, boolean_named}
+use Rattle.script.specs.Values.{data_of, number_fault, number_or, boolean_fault, boolean_or}
 use Rattle.script.specs.Entries.{Entries, all_objects, daemon_of, initial_values, isr_names, source_names, entries_view}
 use Rattle.script.specs.Sections.{data_at}
 use Rattle.script.specs.Ops.{handler_ops_fault, scripts_fault, with_isr_ops, all_tasks}
@@ -83,4 +83,4 @@ returns c =
     (subst (λ d. option_and_then (boolean_fault (at_section section.Tickless)) d ≡ None) c.at_section-value-2.ensures
     (subst (λ p. option_and_then (boolean_fault p) (data_of c.at_section-value-2.result) ≡ None) c.section-2.ensures tickless.0))
     c.in_ok-limits.ensures.0 entries.0 (start.1 ∙ ap (number_or 0) c.at_section-value.ensures)
-    (tickless.1 ∙ ap boolean_named c.at_section-value-2.ensures) c.in_ok-limits.ensures.1 entries.1 c.app_of.ensures
+    (tickless.1 ∙ ap (boolean_or false) c.at_section-value-2.ensures) c.in_ok-limits.ensures.1 entries.1 c.app_of.ensures

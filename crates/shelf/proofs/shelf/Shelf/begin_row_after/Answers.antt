@@ -19,13 +19,10 @@ begin_row-requires-clause-beyond c =
 
 pub begin_row-requires-clause-meter : goal.begin_row-requires-clause-meter
 begin_row-requires-clause-meter c =
-    let first = first_step c.args.point.now in
-    let risen = c.in_ok-walk_to.ensures.meter in
-    let short = short_way c.args.self.now.stride c.args.walk.now.kernel.steps first in
-    let there = c.in_ok-walk_to.ensures.there in
     let copied = ap (λ (k : Machine). k.steps) c.set_from.ensures in
+    let there = c.requires.there in
     let low = c.requires.meter in
-    omega (arith, risen, short, there, copied, low)
+    omega (arith, there, copied, low)
 
 pub returns-clause-begun : goal.returns-clause-begun
 returns-clause-begun c =
@@ -39,14 +36,4 @@ returns-clause-begun c =
     omega arith) in
     has_begun c.args.app.now c.args.point.now c.well_formed-2.ensures _ c.args.self.now.limits
     (ap (λ (s : Shelved). s.limits) c.self.view_is) _ _ _ _ row.way row.past beyond row.end
-    (rw c.in_ok-walk_to.ensures.trail at row.events)
-
-pub returns-in_err-walk_to-clause-refused : goal.returns-in_err-walk_to-clause-refused
-returns-in_err-walk_to-clause-refused c =
-    on_err c.from_residual.result (λ run is.
-    let goes = λ (n : ℕ) (l : n ≤ first_step c.args.point.now). (
-    c.requires.shelf.is_base.goes_on n (let reached = c.requires.reached in omega (arith, l))) in (
-      omega arith,
-      row_tells c.args.app.now c.args.self.now.limits c.args.point.now c.well_formed-2.ensures goes
-          c.in_err-walk_to.ensures.memory run is,
-    ))
+    row.events

@@ -3,7 +3,7 @@ use Rattle.std.proofs.lemmas.Result.{err_from_is_err_and}
 use Rattle.model.specs.declared.event.Event.{Event}
 use Rattle.model.specs.Points.{first_step}
 use Rattle.model.specs.Run.{state_after}
-use Rattle.shelf.proofs.Along.{cost_is, few_before}
+use Rattle.shelf.proofs.Along.{few_before}
 use Rattle.shelf.proofs.Whole.{whole_row, whole_refused}
 use Rattle.shelf.proofs.shelf.Shelf.reached_row.Goals as goal
 
@@ -23,8 +23,7 @@ returns-in_err-events-clause-refused c =
     k _ _ none c.in_ok-before.field-0 begun c.in_ok-before.ensures.before c.in-Some.end c.in-Some.is
     (state_after c.args.app.now c.args.self.now.limits c.args.point.now k.steps).elapsed refl
     c.args.meter.now c.begin_row_after.new.meter
-    (cost_is c.args.self.now c.args.point.now c.requires.reached c.new-walk.result.kernel.steps k.steps
-    c.args.meter.now c.begin_row_after.new.meter c.new-walk.ensures.steps begun.past c.in_ok-before.ensures.meter)
+    c.in_ok-before.ensures.meter
     (subst (λ (events : List Event). 0 < c.in_ok-before.field-0.before + length events)
     c.events.ensures c.in_err-events.ensures.memory))
 

@@ -1,0 +1,1 @@
+use Rattle.kernel.proofs.handlers.is_none_due.Goals as goal
