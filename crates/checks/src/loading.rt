@@ -3,7 +3,7 @@
 use model::{
     Access, AnswerCondition, App, Arithmetic, Command, Condition, GroupId, HandlerId, IsrOp,
     NotificationClear, NotificationMasks, NotificationWait, NotifyAction, ObjectId, ObjectKind, Op,
-    Point, PointEntry, PointRange, TaskId, Value, ValueOp, VariableId,
+    Point, PointEntry, PointRange, SourceOp, TaskId, Value, ValueOp, VariableId,
 };
 use script::FromDocument;
 use std::alloc::Global;
@@ -442,6 +442,80 @@ fn notifies_waits_for_notifications_and_clears_are_loaded(rt: HostRuntime) {
         IsrOp::Notify(a, NotifyAction::Overwrite(Value::Number(0))),
     ];
     has_isr_ops(&rt, &app, &isr_ops);
+}
+
+// A handler may name handlers after it, and itself. `tick` is the handler of that name here.
+const DEVICES: &str = "
+[[handler]]
+name = 'h'
+ops = ['raise h 1', ' raise  tick 0001000000 ', 'arm tick', 'disarm h', ' cancel h ']
+
+[[handler]]
+name = 'arm'
+ops = []
+armed = false
+apart = 1000000
+
+[[handler]]
+name = 'tick'
+ops = []
+armed = true
+apart = 0
+
+[[handler]]
+name = 'late'
+ops = []
+apart = 1
+
+[[handler]]
+name = 'deaf'
+armed = false
+ops = []
+
+[[task]]
+name = 'a'
+priority = 1
+script = ['arm  arm', 'disarm tick', 'raise h 1000000', ' raise arm  007', 'cancel tick']
+";
+
+#[test]
+fn ops_on_handlers_are_loaded(rt: HostRuntime) {
+    let app = loaded(&rt, rt.alloc(), DEVICES);
+    let h = HandlerId { number: 0 };
+    let arm = HandlerId { number: 1 };
+    let tick = HandlerId { number: 2 };
+    let ops = [
+        Op::Source(arm, SourceOp::Arm),
+        Op::Source(tick, SourceOp::Disarm),
+        Op::Source(h, SourceOp::Raise(1_000_000)),
+        Op::Source(arm, SourceOp::Raise(7)),
+        Op::Source(tick, SourceOp::Cancel),
+    ];
+    has_ops(&rt, &app, &ops);
+    let isr_ops = [
+        IsrOp::Source(h, SourceOp::Raise(1)),
+        IsrOp::Source(tick, SourceOp::Raise(1_000_000)),
+        IsrOp::Source(tick, SourceOp::Arm),
+        IsrOp::Source(h, SourceOp::Disarm),
+        IsrOp::Source(h, SourceOp::Cancel),
+    ];
+    has_isr_ops(&rt, &app, &isr_ops);
+}
+
+#[test]
+fn handlers_are_armed_and_come_at_any_time_unless_the_file_says_otherwise(rt: HostRuntime) {
+    let app = loaded(&rt, rt.alloc(), DEVICES);
+    let arrivals = [
+        (true, 0),
+        (false, 1_000_000),
+        (true, 0),
+        (true, 1),
+        (false, 0),
+    ];
+    assert!(rt; app.handlers().len() == arrivals.len());
+    for (handler, (armed, apart)) in app.handlers().iter().zip(arrivals) {
+        assert!(rt; handler.armed() == armed && handler.apart() == apart);
+    }
 }
 
 // Wherever it is in the file, the daemon comes after all tasks, and its queue after all objects.

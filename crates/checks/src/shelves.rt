@@ -134,20 +134,24 @@ fn known_at_six(rt: &impl Abort, alloc: Global, app: &App, step: u32) -> Option<
 {
     let shelf = Shelf::make(alloc, app, app.limits(), 6).expect(rt, "memory");
     let point = Point::one(step, HandlerId { number: 0 });
-    if !shelf.reaches(&point) {
+    if !shelf.gets_to(&point) {
         return None;
     }
     let mut walk = Walk::new(app);
-    let mut kernel = Kernel::boot(app);
     let mut meter = Meter::new();
     let mut log = StepLog::new();
     let mut trail = Trail::new(alloc);
+    let comes = shelf
+        .walk_to(app, &point, &mut walk, &mut meter, &mut log, &mut trail)
+        .expect(rt, "memory");
+    assert!(rt; comes);
+    let mut kernel = Kernel::boot(app);
     shelf
         .begin_row_after(
             app,
             &point,
             6,
-            &mut walk,
+            &walk,
             &mut kernel,
             &mut meter,
             &mut log,

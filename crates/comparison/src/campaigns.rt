@@ -11,6 +11,7 @@ use deal::Division;
 use dice::Dice;
 use model::{App, End, HandlerId, Injection, Memory, Meter, Plan, Point, Run};
 use report::{Title, write_run};
+use slow::SlowKernel;
 use std::alloc::Global;
 use std::process::Abort;
 use std::sync::Wait;
@@ -119,17 +120,30 @@ fn alone(rt: &impl Abort, alloc: Global, app: &App, plan: &Plan) -> Run {
     kernel::run(alloc, app, plan, app.limits(), &mut Meter::new()).expect(rt, "memory")
 }
 
-/// The text of the row of a point, which is run alone, where the base run has this many steps.
+/// Whether a point is reached: the base run gets beyond the step of its first injection, and that can come there.
+fn is_reached(alloc: Global, app: &App, point: &Point) -> bool {
+    let limits = app.limits();
+    let first = point.first();
+    let mut slow = SlowKernel::boot(alloc, app);
+    for _ in 0..first.step {
+        if slow.end(app, &limits).is_some() {
+            return false;
+        }
+        slow.step(app, &limits, &[]);
+    }
+    slow.end(app, &limits).is_none() && slow.can_come(first.handler)
+}
+
+/// The text of the row of a point, which is run alone.
 fn row_of(
     rt: &impl Abort,
     alloc: Global,
     app: &App,
-    steps: u32,
     number: usize,
     point: &Point,
     seen: &mut Seen,
 ) -> Vec<u8> {
-    let reached = point.first_step() < steps;
+    let reached = is_reached(alloc, app, point);
     let plan = if reached {
         Plan::of(alloc, point).ok().expect(rt, "memory")
     } else {
@@ -235,19 +249,18 @@ fn base_steps(rt: &impl Abort, alloc: Global, app: &App) -> u32 {
     alone(rt, alloc, app, &Plan::none(alloc)).steps
 }
 
-/// The report over these points, each of whose rows is run alone, where the base run has this many steps.
+/// The report over these points, each of whose rows is run alone.
 fn rows_alone(
     rt: &impl Abort,
     alloc: Global,
     app: &App,
     points: &[Point],
-    steps: u32,
     all: &mut Seen,
 ) -> Vec<u8> {
     let mut seen = Seen::default();
     let mut text = Vec::new(alloc);
     for (number, point) in points.iter().enumerate() {
-        let row = row_of(rt, alloc, app, steps, number, point, &mut seen);
+        let row = row_of(rt, alloc, app, number, point, &mut seen);
         text.extend_from_slice(row.as_slice())
             .ok()
             .expect(rt, "memory");
@@ -267,14 +280,15 @@ fn fail(rt: &impl Abort, alloc: Global, seed: u32, app: &App, points: &[Point], 
     panic!(rt; "seed {seed}, {manner:?}: another report, of points{told} on this file\n{file}");
 }
 
-/// For applications whose tasks crowd about objects, and as often for those whose tasks go by what was answered, open critical
-/// sections, calculate, or notify each other.
+/// For applications whose tasks crowd about objects or raise handlers, and half as often for those whose tasks go by what was answered,
+/// open critical sections, calculate, or notify each other.
 fn dice_of(seed: u32) -> Dice {
     match seed % 8 {
         0 => Dice::deciding(seed),
         2 => Dice::masking(seed),
         4 => Dice::calculating(seed),
         6 => Dice::signalling(seed),
+        3 | 7 => Dice::raising(seed),
         _ => Dice::crowding(seed),
     }
 }
@@ -285,7 +299,7 @@ fn compare<R: Abort + Threads + Wait + Sync>(rt: &R, alloc: Global, seed: u32, s
     let app = dice.app(alloc).expect(rt, "memory");
     let steps = base_steps(rt, alloc, &app);
     let points = points_of(&mut dice, alloc, steps).expect(rt, "memory");
-    let wanted = rows_alone(rt, alloc, &app, &points, steps, seen);
+    let wanted = rows_alone(rt, alloc, &app, &points, seen);
     let manner = manner_of(&mut dice);
     let block = 1 + seed as usize % 5;
     let written = report_in_blocks(rt, alloc, &app, &points, manner, block);
@@ -362,8 +376,7 @@ fn a_report_is_the_same_however_it_is_made(rt: HostRuntime) {
     let alloc = rt.alloc();
     let app = loaded(&rt, alloc, ONE_RECEIVE);
     let points = points_at(&rt, alloc, &STEPS);
-    let steps = base_steps(&rt, alloc, &app);
-    let wanted = rows_alone(&rt, alloc, &app, &points, steps, &mut Seen::default());
+    let wanted = rows_alone(&rt, alloc, &app, &points, &mut Seen::default());
     for lengths in DIVISIONS {
         for manner in MANNERS {
             compare_made(&rt, alloc, &app, lengths, manner, &wanted);

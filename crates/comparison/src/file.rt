@@ -1,9 +1,9 @@
 //! An application as a file, so that one can run it.
 
 use model::{
-    Access, AnswerCondition, App, Condition, HandlerDefinition, Injection, Interrupt, IsrOp,
-    NotificationClear, NotificationMasks, NotificationWait, NotifyAction, ObjectId, ObjectKind, Op,
-    Plan, Point, TaskDefinition, TaskId, Value, ValueOp,
+    Access, AnswerCondition, App, Condition, HandlerDefinition, HandlerId, Injection, Interrupt,
+    IsrOp, NotificationClear, NotificationMasks, NotificationWait, NotifyAction, ObjectId,
+    ObjectKind, Op, Plan, Point, SourceOp, TaskDefinition, TaskId, Value, ValueOp,
 };
 use std::alloc::{AllocError, Global};
 
@@ -103,6 +103,20 @@ fn push_rest_on_values(file: &mut String, op: ValueOp) -> Result<(), AllocError>
             push_value(file, value)
         }
         ValueOp::Compute(_, value) => push_value(file, value),
+    }
+}
+
+// The words of an op on a handler after its first.
+fn push_rest_on_source(
+    file: &mut String,
+    app: &App,
+    handler: HandlerId,
+    op: SourceOp,
+) -> Result<(), AllocError> {
+    push_word(file, app.handler_name(handler))?;
+    match op {
+        SourceOp::Raise(ticks) => push_number(file, ticks),
+        SourceOp::Arm | SourceOp::Disarm | SourceOp::Cancel => Ok(()),
     }
 }
 
@@ -208,6 +222,7 @@ fn push_rest(file: &mut String, app: &App, op: &Op) -> Result<(), AllocError> {
         Op::Work(number) | Op::Delay(number) | Op::DelayUntil(number) => push_number(file, number),
         Op::Mark(value) => push_value(file, value),
         Op::Value(op) => push_rest_on_values(file, op),
+        Op::Source(handler, op) => push_rest_on_source(file, app, handler, op),
         Op::Repeat(Some(turns)) => push_number(file, turns as u32),
         Op::Repeat(None) => push_word(file, "forever"),
         Op::Expect(condition) | Op::If(condition) => push_answer_condition(file, condition),
@@ -231,6 +246,7 @@ fn push_isr_rest(file: &mut String, app: &App, op: &IsrOp) -> Result<(), AllocEr
     match *op {
         IsrOp::Mark(value) => push_value(file, value),
         IsrOp::Value(op) => push_rest_on_values(file, op),
+        IsrOp::Source(handler, op) => push_rest_on_source(file, app, handler, op),
         IsrOp::Do(object, access) => push_access(file, object, access),
         IsrOp::Resume(task) => push_word(file, app.name(task)),
         IsrOp::Notify(task, action) => push_notify(file, app, task, action),
@@ -280,6 +296,18 @@ fn push_task(file: &mut String, app: &App, task: &TaskDefinition) -> Result<(), 
     file.push_str("]\n")
 }
 
+// Whether a handler is armed at reset, and how far apart it comes, where that isn't so by default.
+fn push_arrival(file: &mut String, handler: &HandlerDefinition) -> Result<(), AllocError> {
+    if !handler.armed() {
+        file.push_str("armed = false\n")?;
+    }
+    let apart = handler.apart();
+    if apart == 0 {
+        return Ok(());
+    }
+    write!(file, "apart = {apart}\n")
+}
+
 fn push_handler(
     file: &mut String,
     app: &App,
@@ -290,7 +318,8 @@ fn push_handler(
     for op in handler.ops() {
         push_isr_op(file, app, op)?;
     }
-    file.push_str("]\n")
+    file.push_str("]\n")?;
+    push_arrival(file, handler)
 }
 
 fn push_interrupt(file: &mut String, app: &App, interrupt: &Interrupt) -> Result<(), AllocError> {
@@ -400,7 +429,7 @@ fn push_injections(
 ) -> Result<(), AllocError> {
     for injection in injections {
         push_number(text, injection.step)?;
-        push_word(text, app.handler_name(injection.handler))?;
+        push_word(text, app.source_name(injection.handler))?;
     }
     Ok(())
 }

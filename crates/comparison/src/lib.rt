@@ -9,9 +9,15 @@ mod file;
 #[cfg(test)]
 mod gates;
 #[cfg(test)]
+mod placements;
+#[cfg(test)]
 mod planner;
 #[cfg(test)]
 mod random;
+#[cfg(test)]
+mod search;
+#[cfg(test)]
+mod seen;
 #[cfg(test)]
 mod watching;
 #[cfg(test)]

@@ -1,9 +1,10 @@
 //! Runs of the kernel beside runs of the slow program, on many small applications.
 
 use crate::file::{file_of, plan_text};
-use crate::planner::{Injections, Planner};
+use crate::planner::Planner;
+use crate::seen::Seen;
 use dice::Dice;
-use model::{App, End, HandlerDefinition, Meter, Plan, TaskDefinition};
+use model::{App, HandlerDefinition, Meter, Plan, TaskDefinition};
 use script::FromDocument;
 use slow::SlowKernel;
 use std::alloc::Global;
@@ -16,381 +17,6 @@ fn fail(rt: &impl Abort, alloc: Global, seed: u32, app: &App, plan: &Plan, what:
     panic!(rt;
         "seed {seed}: other {what} than the slow program, with injections{injected} on this file\n{file}"
     );
-}
-
-/// How many of the runs have what they are for.
-#[derive(Debug, Default, Drop)]
-struct Seen {
-    /// The tick wrapped.
-    wraps: usize,
-    /// A call or a handler woke one who waited.
-    wakes: usize,
-    /// A wait ended at its deadline.
-    timeouts: usize,
-    /// A task whose call had locked the queue was Awake.
-    own_awakenings: usize,
-    /// Another was.
-    other_awakenings: usize,
-    /// Tasks of both waiting lists were Awake when their queue was unlocked.
-    mixed_unlocks: usize,
-    /// A handler gave a semaphore that was locked.
-    locked_gives: usize,
-    /// The holder of a mutex was raised by one who waits.
-    raises: usize,
-    /// A raised holder gave one of several mutexes back.
-    kept_raises: usize,
-    /// A holder fell when a wait was in vain.
-    falls: usize,
-    /// It did, and kept the priority of another who waits.
-    partial_falls: usize,
-    /// A set met two who waited, or more.
-    crowded_sets: usize,
-    /// It met one or more who asked to clear.
-    clearing_sets: usize,
-    /// A wait for bits ended at its deadline.
-    bit_timeouts: usize,
-    /// A task was suspended that waited.
-    suspended_waits: usize,
-    /// One was whose call was to decide next.
-    suspended_decisions: usize,
-    /// One was for which bits were kept.
-    suspended_answers: usize,
-    /// A task was resumed in the middle of a call.
-    resumed_calls: usize,
-    /// One was while an object was locked.
-    locked_resumes: usize,
-    /// One was before the end of a sleep by `delay_until`.
-    cut_off_sleeps: usize,
-    /// A tick came while the scheduler was suspended.
-    held_ticks: usize,
-    /// A tick was injected; one came while a call held the scheduler; one was injected while a section was open.
-    injected_ticks: usize,
-    ticks_in_calls: usize,
-    pending_ticks: usize,
-    /// A base interrupt came at such a tick.
-    held_interrupts: usize,
-    /// A task became Ready while the scheduler was suspended.
-    held_wakes: usize,
-    /// The run ended with a misuse, of each kind.
-    while_suspended: usize,
-    not_suspended: usize,
-    not_holder: usize,
-    ended_suspended: usize,
-    while_critical: usize,
-    not_critical: usize,
-    ended_critical: usize,
-    /// A task opened a critical section; one inside another.
-    sections: usize,
-    inner_sections: usize,
-    /// A handler was injected while a section was open; one that was pending already.
-    pending_handlers: usize,
-    pending_again: usize,
-    /// Two or more pending handlers came before a step; one or more did while the scheduler was suspended.
-    served_together: usize,
-    served_in_holds: usize,
-    /// The run ended with a handler pending.
-    ends_while_pending: usize,
-    /// A command came to the daemon.
-    commands: usize,
-    /// One found no room.
-    refused_commands: usize,
-    /// One came in the daemon's own window.
-    window_commands: usize,
-    /// The daemon set bits.
-    sets_by_daemon: usize,
-    /// It cleared some.
-    clears_by_daemon: usize,
-    /// The run passed while the daemon ran.
-    passes_beside_daemon: usize,
-    /// Idle let several ticks pass in a step.
-    jumps: usize,
-    /// It did so past the wrap of the tick.
-    wrapping_jumps: usize,
-    /// It did so up to a base interrupt.
-    jumps_to_interrupt: usize,
-    /// It did so until a task woke.
-    jumps_to_wake: usize,
-    /// It did so up to the limit.
-    jumps_to_limit: usize,
-    /// It did so up to tick 0.
-    jumps_to_zero: usize,
-    /// The condition of an `if` held.
-    taken_branches: usize,
-    /// It didn't.
-    skipped_branches: usize,
-    /// A first branch came to its `else`.
-    skipped_others: usize,
-    /// A `break` left a loop.
-    breaks: usize,
-    /// One left a loop for ever.
-    breaks_for_ever: usize,
-    /// One left a loop inside another.
-    inner_breaks: usize,
-    /// A loop for ever began its next turn.
-    turns_for_ever: usize,
-    /// A script came to its end by an `if`, an `else` or a `break`.
-    ending_jumps: usize,
-    /// The condition of a handler's `expect` held.
-    passed_checks: usize,
-    /// It didn't.
-    failed_checks: usize,
-    /// A check failed in a step in which one had failed before.
-    later_failures: usize,
-    /// The condition of a handler's `if` held.
-    taken_by_handlers: usize,
-    /// It didn't.
-    skipped_by_handlers: usize,
-    /// A task noted the time.
-    stamps: usize,
-    /// Ticks had passed since then.
-    measures: usize,
-    /// More had than an answer can be.
-    long_measures: usize,
-    /// The run passed, and an endless task had not come to its end.
-    passes_beside_endless: usize,
-    /// Only endless tasks were there, and all were Ended.
-    endless_alone_ended: usize,
-    /// A task stored a variable.
-    stores: usize,
-    /// A handler did.
-    stores_by_handlers: usize,
-    /// A task calculated.
-    results: usize,
-    /// A task loaded, stored or calculated in a critical section, or while the scheduler was suspended.
-    values_in_holds: usize,
-    /// An op of a task had no value to work with.
-    valueless_ops: usize,
-    /// One of a handler had none.
-    valueless_by_handlers: usize,
-    /// A task would have divided by a variable that was 0.
-    zero_divisors: usize,
-    /// A task asked for a variable in a condition.
-    named_conditions: usize,
-    /// A handler did.
-    named_by_handlers: usize,
-    /// A task sent its last answer to a queue.
-    sent_answers: usize,
-    /// It sent an item that it had received.
-    passed_on: usize,
-    /// A handler sent its last answer.
-    answers_sent_by_handlers: usize,
-    /// A task was notified.
-    notifies: usize,
-    /// One that waited for it was.
-    notified_wakes: usize,
-    /// One that waited, and hadn't left the processor yet, was.
-    window_notifies: usize,
-    /// One that was suspended was.
-    suspended_notifies: usize,
-    /// A value was kept while a notification was pending.
-    kept_values: usize,
-    /// One was overwritten.
-    lost_values: usize,
-    /// A count was added to another.
-    added_counts: usize,
-    /// A take answered a count.
-    taken_counts: usize,
-    /// It left some.
-    left_counts: usize,
-    /// A wait for a notification ended at its deadline.
-    notice_timeouts: usize,
-    /// One cleared bits at its start.
-    entry_clears: usize,
-    /// One cleared some at its end.
-    exit_clears: usize,
-    /// A pending notification was cleared.
-    cleared_notices: usize,
-    injections: Injections,
-}
-
-impl Seen {
-    fn count(&mut self, slow: &SlowKernel, app: &App, has_wrapped: bool, injections: &Injections) {
-        let tally = slow.tally;
-        add(&mut self.wraps, has_wrapped as usize);
-        see(&mut self.wakes, tally.wakes);
-        see(&mut self.timeouts, tally.timeouts);
-        see(&mut self.own_awakenings, tally.own_awakenings);
-        see(&mut self.other_awakenings, tally.other_awakenings);
-        see(&mut self.mixed_unlocks, tally.mixed_unlocks);
-        see(&mut self.locked_gives, tally.locked_gives);
-        see(&mut self.raises, tally.raises);
-        see(&mut self.kept_raises, tally.kept_raises);
-        see(&mut self.falls, tally.falls);
-        see(&mut self.partial_falls, tally.partial_falls);
-        self.count_groups(slow);
-        self.count_suspensions(slow);
-        self.count_misuses(slow);
-        self.count_sections(slow);
-        self.count_commands(slow, app);
-        self.count_jumps(slow);
-        self.count_branches(slow);
-        self.count_looks(slow);
-        self.count_measures(slow);
-        self.count_values(slow);
-        self.count_notifications(slow);
-        self.count_endless(slow, app);
-        self.count_injections(injections);
-    }
-
-    fn count_groups(&mut self, slow: &SlowKernel) {
-        let tally = slow.tally;
-        see(&mut self.crowded_sets, tally.crowded_sets);
-        see(&mut self.clearing_sets, tally.clearing_sets);
-        see(&mut self.bit_timeouts, tally.bit_timeouts);
-        see(&mut self.suspended_answers, tally.suspended_answers);
-    }
-
-    fn count_suspensions(&mut self, slow: &SlowKernel) {
-        let tally = slow.tally;
-        see(&mut self.suspended_waits, tally.suspended_waits);
-        see(&mut self.suspended_decisions, tally.suspended_decisions);
-        see(&mut self.resumed_calls, tally.resumed_calls);
-        see(&mut self.locked_resumes, tally.locked_resumes);
-        see(&mut self.cut_off_sleeps, tally.cut_off_sleeps);
-        see(&mut self.held_ticks, tally.held_ticks);
-        see(&mut self.injected_ticks, tally.injected_ticks);
-        see(&mut self.ticks_in_calls, tally.ticks_in_calls);
-        see(&mut self.pending_ticks, tally.pending_ticks);
-        see(&mut self.held_interrupts, tally.held_interrupts);
-        see(&mut self.held_wakes, tally.held_wakes);
-    }
-
-    fn count_misuses(&mut self, slow: &SlowKernel) {
-        let tally = slow.tally;
-        see(&mut self.while_suspended, tally.while_suspended);
-        see(&mut self.not_suspended, tally.not_suspended);
-        see(&mut self.not_holder, tally.not_holder);
-        see(&mut self.ended_suspended, tally.ended_suspended);
-        see(&mut self.while_critical, tally.while_critical);
-        see(&mut self.not_critical, tally.not_critical);
-        see(&mut self.ended_critical, tally.ended_critical);
-    }
-
-    fn count_sections(&mut self, slow: &SlowKernel) {
-        let tally = slow.tally;
-        let is_any_pending = slow.is_any_pending();
-        see(&mut self.sections, tally.sections);
-        see(&mut self.inner_sections, tally.inner_sections);
-        see(&mut self.pending_handlers, tally.pending_handlers);
-        see(&mut self.pending_again, tally.pending_again);
-        see(&mut self.served_together, tally.served_together);
-        see(&mut self.served_in_holds, tally.served_in_holds);
-        add(&mut self.ends_while_pending, is_any_pending as usize);
-    }
-
-    fn count_commands(&mut self, slow: &SlowKernel, app: &App) {
-        let tally = slow.tally;
-        see(&mut self.commands, tally.commands);
-        see(&mut self.refused_commands, tally.refused_commands);
-        see(&mut self.window_commands, tally.window_commands);
-        see(&mut self.sets_by_daemon, tally.sets_by_daemon);
-        see(&mut self.clears_by_daemon, tally.clears_by_daemon);
-        let passes = slow.end(app, &app.limits()) == Some(End::Pass);
-        let passes_beside = passes && slow.is_daemon_running(app);
-        add(&mut self.passes_beside_daemon, passes_beside as usize);
-    }
-
-    fn count_jumps(&mut self, slow: &SlowKernel) {
-        let tally = slow.tally;
-        see(&mut self.jumps, tally.jumps);
-        see(&mut self.wrapping_jumps, tally.wrapping_jumps);
-        see(&mut self.jumps_to_interrupt, tally.jumps_to_interrupt);
-        see(&mut self.jumps_to_wake, tally.jumps_to_wake);
-        see(&mut self.jumps_to_limit, tally.jumps_to_limit);
-        see(&mut self.jumps_to_zero, tally.jumps_to_zero);
-    }
-
-    fn count_branches(&mut self, slow: &SlowKernel) {
-        let tally = slow.tally;
-        see(&mut self.taken_branches, tally.taken_branches);
-        see(&mut self.skipped_branches, tally.skipped_branches);
-        see(&mut self.skipped_others, tally.skipped_others);
-        see(&mut self.breaks, tally.breaks);
-        see(&mut self.breaks_for_ever, tally.breaks_for_ever);
-        see(&mut self.inner_breaks, tally.inner_breaks);
-        see(&mut self.turns_for_ever, tally.turns_for_ever);
-        see(&mut self.ending_jumps, tally.ending_jumps);
-    }
-
-    fn count_looks(&mut self, slow: &SlowKernel) {
-        let tally = slow.tally;
-        see(&mut self.passed_checks, tally.passed_checks);
-        see(&mut self.failed_checks, tally.failed_checks);
-        see(&mut self.later_failures, tally.later_failures);
-        see(&mut self.taken_by_handlers, tally.taken_by_handlers);
-        see(&mut self.skipped_by_handlers, tally.skipped_by_handlers);
-    }
-
-    fn count_measures(&mut self, slow: &SlowKernel) {
-        let tally = slow.tally;
-        see(&mut self.stamps, tally.stamps);
-        see(&mut self.measures, tally.measures);
-        see(&mut self.long_measures, tally.long_measures);
-    }
-
-    fn count_endless(&mut self, slow: &SlowKernel, app: &App) {
-        let passes = slow.end(app, &app.limits()) == Some(End::Pass);
-        let passes_beside = passes && slow.is_any_endless_left(app);
-        let is_alone = !app.is_any_awaited() && !slow.is_any_endless_left(app);
-        add(&mut self.passes_beside_endless, passes_beside as usize);
-        add(&mut self.endless_alone_ended, is_alone as usize);
-    }
-
-    fn count_values(&mut self, slow: &SlowKernel) {
-        let tally = slow.tally;
-        see(&mut self.stores, tally.stores);
-        see(&mut self.stores_by_handlers, tally.stores_by_handlers);
-        see(&mut self.results, tally.results);
-        see(&mut self.values_in_holds, tally.values_in_holds);
-        see(&mut self.valueless_ops, tally.valueless_ops);
-        see(&mut self.valueless_by_handlers, tally.valueless_by_handlers);
-        see(&mut self.zero_divisors, tally.zero_divisors);
-        see(&mut self.named_conditions, tally.named_conditions);
-        see(&mut self.named_by_handlers, tally.named_by_handlers);
-        see(&mut self.sent_answers, tally.sent_answers);
-        see(&mut self.passed_on, tally.passed_on);
-        see(
-            &mut self.answers_sent_by_handlers,
-            tally.answers_sent_by_handlers,
-        );
-    }
-
-    fn count_notifications(&mut self, slow: &SlowKernel) {
-        let tally = slow.tally;
-        see(&mut self.notifies, tally.notifies);
-        see(&mut self.notified_wakes, tally.notified_wakes);
-        see(&mut self.window_notifies, tally.window_notifies);
-        see(&mut self.suspended_notifies, tally.suspended_notifies);
-        see(&mut self.kept_values, tally.kept_values);
-        see(&mut self.lost_values, tally.lost_values);
-        see(&mut self.added_counts, tally.added_counts);
-        see(&mut self.taken_counts, tally.taken_counts);
-        see(&mut self.left_counts, tally.left_counts);
-        see(&mut self.notice_timeouts, tally.notice_timeouts);
-        see(&mut self.entry_clears, tally.entry_clears);
-        see(&mut self.exit_clears, tally.exit_clears);
-        see(&mut self.cleared_notices, tally.cleared_notices);
-    }
-
-    fn count_injections(&mut self, injections: &Injections) {
-        add(&mut self.injections.all, injections.all);
-        add(&mut self.injections.inside_calls, injections.inside_calls);
-        add(&mut self.injections.locked, injections.locked);
-        add(&mut self.injections.suspended, injections.suspended);
-        add(&mut self.injections.critical, injections.critical);
-        add(&mut self.injections.beside_daemon, injections.beside_daemon);
-        add(&mut self.injections.in_its_window, injections.in_its_window);
-        add(&mut self.injections.late, injections.late);
-    }
-}
-
-/// Counts a run in which something happened this many times.
-fn see(count: &mut usize, times: u32) {
-    add(count, (times > 0) as usize);
-}
-
-fn add(count: &mut usize, more: usize) {
-    *count = count.saturating_add(more);
 }
 
 /// Runs both, the slow program first, with the plan that is made meanwhile, and compares what they report.
@@ -451,6 +77,8 @@ enum Sort {
     /// Tasks crowd about objects, wait for bits or for notifications, are suspended, or open critical sections. Ticks and handlers are
     /// injected in each run.
     Tick,
+    /// Tasks and handlers arm, disarm and raise handlers. Handlers are injected in each run, and ticks in every other one.
+    Device,
 }
 
 impl Sort {
@@ -465,6 +93,7 @@ impl Sort {
             Sort::Section => Dice::masking(seed),
             Sort::Signal => Dice::signalling(seed),
             Sort::Calculation => Dice::calculating(seed),
+            Sort::Device => Dice::raising(seed),
             Sort::Tick => match seed % 5 {
                 0 => Dice::crowding(seed),
                 1 => Dice::gathering(seed),
@@ -478,14 +107,19 @@ impl Sort {
     fn has_injections(self, seed: u32) -> bool {
         match self {
             Sort::Any => false,
-            Sort::Crowd | Sort::Tick => true,
+            Sort::Crowd | Sort::Tick | Sort::Device => true,
             Sort::Contest | Sort::Gathering | Sort::Decision => seed % 2 != 0,
             Sort::Suspension | Sort::Section | Sort::Signal | Sort::Calculation => seed % 4 != 0,
         }
     }
 
     fn planner(self, alloc: Global, seed: u32) -> Planner {
-        if matches!(self, Sort::Tick) {
+        let has_ticks = match self {
+            Sort::Tick => true,
+            Sort::Device => seed % 2 == 0,
+            _ => false,
+        };
+        if has_ticks {
             Planner::of_ticks(alloc, u32::MAX - seed)
         } else if self.has_injections(seed) {
             Planner::new(alloc, u32::MAX - seed)
@@ -705,6 +339,21 @@ fn the_slow_program_agrees_where_tasks_wait_for_notifications(rt: HostRuntime) {
     has_enough(&rt, &seen, has_clears && seen.cleared_notices > 4_200);
 }
 
+#[test]
+fn the_slow_program_agrees_where_tasks_raise_handlers(rt: HostRuntime) {
+    let seen = seen_in(&rt, rt.alloc(), Sort::Device);
+    let has_barred = seen.disarmed_injections > 9_400 && seen.early_injections > 5_700;
+    has_enough(&rt, &seen, has_barred && seen.disarmed_pending > 150);
+    let has_disarmed = seen.disarmed_interrupts > 4_900 && seen.disarmed_raised > 8_200;
+    has_enough(&rt, &seen, has_disarmed && seen.raised_comings > 12_400);
+    let has_raised = seen.raised_together > 3_400 && seen.raised_behind_others > 3_750;
+    has_enough(&rt, &seen, has_raised && seen.raised_in_holds > 5_400);
+    let has_changed = seen.raised_again > 16_000 && seen.cancelled > 8_300;
+    has_enough(&rt, &seen, has_changed && seen.jumps_to_raised > 3_300);
+    let has_ops = seen.controlled_in_holds > 13_400 && seen.controlled_by_handlers > 14_400;
+    has_enough(&rt, &seen, has_ops);
+}
+
 /// The application that a file describes.
 pub(crate) fn loaded(rt: &impl Abort, alloc: Global, file: &str) -> App {
     let document = toml::table_from_str(alloc, file)
@@ -716,7 +365,10 @@ pub(crate) fn loaded(rt: &impl Abort, alloc: Global, file: &str) -> App {
 }
 
 fn is_same_handler(one: &HandlerDefinition, other: &HandlerDefinition) -> bool {
-    one.name() == other.name() && one.ops() == other.ops()
+    one.name() == other.name()
+        && one.ops() == other.ops()
+        && one.armed() == other.armed()
+        && one.apart() == other.apart()
 }
 
 fn is_same_task(one: &TaskDefinition, other: &TaskDefinition) -> bool {
@@ -780,6 +432,8 @@ fn an_application_that_is_shown_as_a_file_is_loaded_as_it_was(rt: HostRuntime) {
         let app = Dice::calculating(seed)
             .app(rt.alloc())
             .expect(&rt, "memory");
+        load_again(&rt, rt.alloc(), &app);
+        let app = Dice::raising(seed).app(rt.alloc()).expect(&rt, "memory");
         load_again(&rt, rt.alloc(), &app);
     }
 }

@@ -1,4 +1,4 @@
--- Ops that an application of given objects, two event groups, four variables and four tasks of the file knows.
+-- Ops that an application of given objects, two event groups, four variables, four tasks of the file and three handlers knows.
 use Rattle.std.proofs.Common.{◌≡◌, ◌&&◌, not, ◌≤◌, ◌<◌, ◌+◌, ℕ, Bool, ap, arith, length, length-append, refl, true, false, List, []}
 use Rattle.std.proofs.Common.{◌∷◌, ◌++◌, Option, Some, None, sym, subst}
 use Rattle.std.specs.Prelude.{Result, Ok, Err, IfOk, IsTrue, OnOk, OnErr, filter, is_ok, nat_eq, nat_lt, unwrap_or, if◌then◌else◌}
@@ -16,6 +16,7 @@ use Rattle.model.specs.declared.op.IsrOp.{IsrOp}
 use Rattle.model.specs.declared.op.IsrOp.TheVariants as isr
 use Rattle.model.specs.declared.op.Op.TheVariants as op
 use Rattle.model.specs.declared.ids.VariableId.{VariableId}
+use Rattle.model.specs.declared.source.SourceOp.{SourceOp}
 use Rattle.model.specs.declared.answer.AnswerCondition.{AnswerCondition}
 use Rattle.model.specs.declared.answer.AnswerCondition.TheVariants.{Is, IsNot, Below, Above}
 use Rattle.model.specs.declared.value.Value.{Value}
@@ -25,7 +26,7 @@ use Rattle.model.specs.declared.value.ValueOp.{ValueOp}
 use Rattle.model.specs.declared.value.ValueOp.TheVariants.{Load, Store, Compute}
 use Rattle.model.specs.Application.{Application, Definition, Handler, Interrupt, interrupts_at, of_file}
 use Rattle.model.specs.Scripts.{IsHandler, IsInterrupt, KnowsAll, is_defined, is_mask, knows, knows_isr, most_handler_ops}
-use Rattle.model.specs.Scripts.{most_name_bytes}
+use Rattle.model.specs.Scripts.{is_near, most_apart, most_name_bytes}
 use Rattle.model.proofs.Nesting.{all-append}
 use Rattle.model.proofs.Sorting.{by_test}
 use Rattle.dice.specs.Known.{AreInterrupts, AreKnown, AreKnownValues, IsKnown, IsKnownAnswer, IsKnownCondition, IsKnownHandler}
@@ -34,7 +35,7 @@ use Rattle.dice.specs.Known.{IsKnownIsr, IsKnownIsrWith, IsKnownValue}
 -- an `end` is known, whatever it ends
 known-ending : (objects : List ObjectKind) (blocks : List Block) (op : Op) → IsKnown objects op → IsKnown objects (ending blocks op)
 known-ending objects blocks op k = by_test (ends_loop (edge_of op) && is_innermost (λ b. not (is_loop b)) blocks)
-    (λ t. rw t (λ app same two four more. refl))
+    (λ t. rw t (λ app same two four more three. refl))
     (λ t. rw t k)
 
 -- a script to which an op was pushed, or not
@@ -46,8 +47,8 @@ known-pushed objects old new op (Ok x) ok err h k =
     let pushed : Op = ending (open_behind old) op in
     let is : IsKnown objects pushed = known-ending objects (open_behind old) op k in
     subst (AreKnown objects) (sym ok)
-    (λ app same two four more.
-    all-append (λ op. knows app op ≡ true) old pushed (h app same two four more) (is app same two four more))
+    (λ app same two four more three.
+    all-append (λ op. knows app op ≡ true) old pushed (h app same two four more three) (is app same two four more three))
 known-pushed objects old new op (Err e) ok err h k = subst (AreKnown objects) (sym err) h
 
 pub few-pushed : {A B : Type 0} (old new : List Op) (op : Op) (result : Result A B)
@@ -57,10 +58,10 @@ few-pushed old new op (Err e) ok err = let n = ap length err in omega (arith, n)
 
 -- such an application knows all ops of such tasks
 pub known_all : (app : Application) → app.group_count ≡ 2 → length (of_file app.daemon app.tasks) ≡ 4
-    → 4 ≤ length app.variables → (tasks : List Definition)
+    → 4 ≤ length app.variables → length app.handlers ≡ 3 → (tasks : List Definition)
     → AllByRecursion (λ (d : Definition). AreKnown app.objects d.script) tasks → AllByRecursion (KnowsAll app) tasks
-known_all app two four more [] h = tt
-known_all app two four more (d ∷ ds) h = (h.0 app refl two four more, known_all app two four more ds h.1)
+known_all app two four more three [] h = tt
+known_all app two four more three (d ∷ ds) h = (h.0 app refl two four more three, known_all app two four more three ds h.1)
 
 -- ---- groups and tasks
 
@@ -72,6 +73,20 @@ knows_group app group two first = lt-ltb group app.group_count (omega arith)
 pub knows_task : (app : Application) (task : ℕ) → length (of_file app.daemon app.tasks) ≡ 4 → task < 4
     → nat_lt task (length (of_file app.daemon app.tasks)) ≡ true
 knows_task app task four first = lt-ltb task (length (of_file app.daemon app.tasks)) (omega arith)
+
+-- one of three handlers
+has_handler : (app : Application) (handler : ℕ) → length app.handlers ≡ 3 → handler < 3
+    → nat_lt handler (length app.handlers) ≡ true
+has_handler app handler three first = lt-ltb handler (length app.handlers) (omega arith)
+
+pub known_source : (objects : List ObjectKind) (handler : ℕ) (what : SourceOp) → handler < 3
+    → IsKnown objects (op.Source handler what)
+known_source objects handler what first app same two four more three = has_handler app handler three first
+
+pub known_isr_source : (objects : List ObjectKind) (handler : ℕ) (what : SourceOp) → handler < 3 → is_near what ≡ true
+    → IsKnownIsr objects (isr.Source handler what)
+known_isr_source objects handler what first near app same two four more three =
+    rw (has_handler app handler three first, near) refl
 
 -- ---- values
 
@@ -120,26 +135,26 @@ known_result kind value known app more = known app more
 
 pub known_expect : (objects : List ObjectKind) (condition : AnswerCondition) → IsKnownCondition condition
     → IsKnown objects (op.Expect condition)
-known_expect objects condition known app same two four more = known app more
+known_expect objects condition known app same two four more three = known app more
 
 pub known_if : (objects : List ObjectKind) (condition : AnswerCondition) → IsKnownCondition condition
     → IsKnown objects (op.If condition)
-known_if objects condition known app same two four more = known app more
+known_if objects condition known app same two four more three = known app more
 
 pub known_values : (objects : List ObjectKind) (values : ValueOp) → AreKnownValues values → IsKnown objects (op.Value values)
-known_values objects values known app same two four more = known app more
+known_values objects values known app same two four more three = known app more
 
 pub known_isr_expect : (objects : List ObjectKind) (condition : AnswerCondition) → IsKnownCondition condition
     → IsKnownIsr objects (isr.Expect condition)
-known_isr_expect objects condition known app same two four more = known app more
+known_isr_expect objects condition known app same two four more three = known app more
 
 pub known_isr_if : (objects : List ObjectKind) (condition : AnswerCondition) → IsKnownCondition condition
     → IsKnownIsr objects (isr.If condition)
-known_isr_if objects condition known app same two four more = known app more
+known_isr_if objects condition known app same two four more three = known app more
 
 pub known_isr_values : (objects : List ObjectKind) (values : ValueOp) → AreKnownValues values → is_defined values ≡ true
     → IsKnownIsr objects (isr.Value values)
-known_isr_values objects values known defined app same two four more = rw (known app more, defined) refl
+known_isr_values objects values known defined app same two four more three = rw (known app more, defined) refl
 
 -- ---- handlers
 
@@ -150,31 +165,33 @@ known_command app true c has is two first mask = rw (has, knows_group app c.grou
 known_command app false c has is two first mask = absurd (cc)
 
 known_ops : (app : Application) (has_daemon : Bool) (objects : List ObjectKind) → app.objects ≡ objects → app.group_count ≡ 2
-    → length (of_file app.daemon app.tasks) ≡ 4 → 4 ≤ length app.variables → is_some app.daemon ≡ has_daemon → (ops : List IsrOp)
+    → length (of_file app.daemon app.tasks) ≡ 4 → 4 ≤ length app.variables → length app.handlers ≡ 3
+    → is_some app.daemon ≡ has_daemon → (ops : List IsrOp)
     → AllByRecursion (IsKnownIsrWith has_daemon objects) ops → AllByRecursion (λ op. knows_isr app op ≡ true) ops
-known_ops app has_daemon objects same two four more has [] h = tt
-known_ops app has_daemon objects same two four more has (op ∷ ops) h =
-    (h.0 app same two four more has, known_ops app has_daemon objects same two four more has ops h.1)
+known_ops app has_daemon objects same two four more three has [] h = tt
+known_ops app has_daemon objects same two four more three has (op ∷ ops) h =
+    (h.0 app same two four more three has, known_ops app has_daemon objects same two four more three has ops h.1)
 
--- a handler of a short name and few ops that nest and are known
+-- a handler of a short name and few ops that nest and are known, which comes no further apart than it may
 pub known_handler : (has_daemon : Bool) (objects : List ObjectKind) (handler : Handler) → length handler.name ≤ most_name_bytes
-    → length handler.ops ≤ most_handler_ops → Nests [] (isr_edges_of handler.ops)
+    → length handler.ops ≤ most_handler_ops → handler.apart ≤ most_apart → Nests [] (isr_edges_of handler.ops)
     → AllByRecursion (IsKnownIsrWith has_daemon objects) handler.ops
     → IsKnownHandler has_daemon objects handler
-known_handler has_daemon objects handler name few nests known app same two four more has = record {
+known_handler has_daemon objects handler name few near nests known app same two four more three has = record {
   name = name;
   few = few;
+  near = near;
   nests = nests;
-  known = known_ops app has_daemon objects same two four more has handler.ops known;
+  known = known_ops app has_daemon objects same two four more three has handler.ops known;
 }
 
 pub are_handlers : (app : Application) (has_daemon : Bool) (objects : List ObjectKind) → app.objects ≡ objects → app.group_count ≡ 2
-    → length (of_file app.daemon app.tasks) ≡ 4 → 4 ≤ length app.variables → is_some app.daemon ≡ has_daemon
-    → (handlers : List Handler)
+    → length (of_file app.daemon app.tasks) ≡ 4 → 4 ≤ length app.variables → length app.handlers ≡ 3
+    → is_some app.daemon ≡ has_daemon → (handlers : List Handler)
     → AllByRecursion (IsKnownHandler has_daemon objects) handlers → AllByRecursion (IsHandler app) handlers
-are_handlers app has_daemon objects same two four more has [] h = tt
-are_handlers app has_daemon objects same two four more has (handler ∷ handlers) h =
-    (h.0 app same two four more has, are_handlers app has_daemon objects same two four more has handlers h.1)
+are_handlers app has_daemon objects same two four more three has [] h = tt
+are_handlers app has_daemon objects same two four more three has (handler ∷ handlers) h =
+    (h.0 app same two four more three has, are_handlers app has_daemon objects same two four more three has handlers h.1)
 
 -- ---- base interrupts
 

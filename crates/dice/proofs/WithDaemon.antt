@@ -114,9 +114,9 @@ pub four_of_file : (app : Application) (has_daemon : Bool) → app.daemon ≡ da
 four_of_file app has_daemon is tasks = subst (λ o. length (of_file o app.tasks) ≡ 4) (sym is) tasks.four
 
 pub known_of_file : (app : Application) (has_daemon : Bool) → app.daemon ≡ daemon_number has_daemon → app.group_count ≡ 2
-    → 4 ≤ length app.variables → AreTasks has_daemon app.objects app.tasks
+    → 4 ≤ length app.variables → length app.handlers ≡ 3 → AreTasks has_daemon app.objects app.tasks
     → AllByRecursion (KnowsAll app) (of_file app.daemon app.tasks)
-known_of_file app has_daemon is two more tasks =
+known_of_file app has_daemon is two more three tasks =
     let known : AllKnown app.objects (of_file app.daemon app.tasks) =
     subst (λ o. AllKnown app.objects (of_file o app.tasks)) (sym is) tasks.known in
-    known_all app two (four_of_file app has_daemon is tasks) more (of_file app.daemon app.tasks) known
+    known_all app two (four_of_file app has_daemon is tasks) more three (of_file app.daemon app.tasks) known

@@ -1,5 +1,5 @@
--- What may be in an application as soon as it has these objects, two event groups, four variables, four tasks of the file, or three
--- handlers.
+-- What may be in an application as soon as it has these objects, two event groups, four variables, four tasks of the file, and
+-- three handlers.
 use Rattle.std.specs.Prelude.{ℕ, ◌≡◌, ◌≤◌, ◌<◌, ◌+◌, ◌-◌, Bool, true, false, List, [], ◌∷◌, Option, Some, None, is_some, IfSome}
 use Rattle.std.specs.Prelude.{IsSomeAnd, length, option_map, unwrap_or}
 use Rattle.std.specs.List.{AllByRecursion, slice_get}
@@ -14,35 +14,36 @@ use Rattle.model.specs.declared.value.ValueOp.{ValueOp}
 use Rattle.model.specs.Application.{Application, Definition, Handler, Interrupt, of_file}
 use Rattle.model.specs.Scripts.{IsDefinition, IsHandler, fits, knows, knows_condition, knows_isr, knows_value, knows_values}
 
--- Every application of these objects, two event groups, four tasks of the file and four variables or more knows the op.
+-- Every application of these objects, two event groups, four tasks of the file, four variables or more and three handlers knows
+-- the op.
 abbrev pub IsKnown : List ObjectKind → Op → Type 0
 IsKnown objects op =
     (app : Application) → app.objects ≡ objects → app.group_count ≡ 2 → length (of_file app.daemon app.tasks) ≡ 4
-    → 4 ≤ length app.variables → knows app op ≡ true
+    → 4 ≤ length app.variables → length app.handlers ≡ 3 → knows app op ≡ true
 
 -- It knows each of them.
 abbrev pub AreKnown : List ObjectKind → List Op → Type 0
 AreKnown objects ops =
     (app : Application) → app.objects ≡ objects → app.group_count ≡ 2 → length (of_file app.daemon app.tasks) ≡ 4
-    → 4 ≤ length app.variables → AllByRecursion (λ op. knows app op ≡ true) ops
+    → 4 ≤ length app.variables → length app.handlers ≡ 3 → AllByRecursion (λ op. knows app op ≡ true) ops
 
 -- Every such application knows the op of a handler.
 abbrev pub IsKnownIsr : List ObjectKind → IsrOp → Type 0
 IsKnownIsr objects op =
     (app : Application) → app.objects ≡ objects → app.group_count ≡ 2 → length (of_file app.daemon app.tasks) ≡ 4
-    → 4 ≤ length app.variables → knows_isr app op ≡ true
+    → 4 ≤ length app.variables → length app.handlers ≡ 3 → knows_isr app op ≡ true
 
 -- Every such application that has a daemon, or has none, knows it.
 abbrev pub IsKnownIsrWith : (has_daemon : Bool) → List ObjectKind → IsrOp → Type 0
 IsKnownIsrWith has_daemon objects op =
     (app : Application) → app.objects ≡ objects → app.group_count ≡ 2 → length (of_file app.daemon app.tasks) ≡ 4
-    → 4 ≤ length app.variables → is_some app.daemon ≡ has_daemon → knows_isr app op ≡ true
+    → 4 ≤ length app.variables → length app.handlers ≡ 3 → is_some app.daemon ≡ has_daemon → knows_isr app op ≡ true
 
 -- Every such application may have the handler.
 abbrev pub IsKnownHandler : (has_daemon : Bool) → List ObjectKind → Handler → Type 0
 IsKnownHandler has_daemon objects handler =
     (app : Application) → app.objects ≡ objects → app.group_count ≡ 2 → length (of_file app.daemon app.tasks) ≡ 4
-    → 4 ≤ length app.variables → is_some app.daemon ≡ has_daemon → IsHandler app handler
+    → 4 ≤ length app.variables → length app.handlers ≡ 3 → is_some app.daemon ≡ has_daemon → IsHandler app handler
 
 -- ---- values
 

@@ -104,7 +104,8 @@ impl Dice {
     {
         match self.theme {
             Theme::Decision => 4 + self.roll(21),
-            Theme::Section | Theme::Calculation | Theme::Signal => 4 + self.roll(13),
+            Theme::Section | Theme::Calculation | Theme::Signal | Theme::Device => 4
+                + self.roll(13),
             _ => self.roll(9),
         }
     }

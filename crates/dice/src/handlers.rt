@@ -88,7 +88,8 @@ impl Dice {
             | Theme::Decision
             | Theme::Section
             | Theme::Signal
-            | Theme::Calculation => self.roll(4) == 0,
+            | Theme::Calculation
+            | Theme::Device => self.roll(4) == 0,
             Theme::Suspension => self.roll(2) == 0,
         }
     }
@@ -117,7 +118,8 @@ impl Dice {
             | Theme::Decision
             | Theme::Section
             | Theme::Signal
-            | Theme::Calculation => self.roll(3) == 0,
+            | Theme::Calculation
+            | Theme::Device => self.roll(3) == 0,
             Theme::Gathering => self.roll(3) > 0,
         }
     }
@@ -127,7 +129,7 @@ impl Dice {
     fn looks(&mut self) -> bool {
         match self.theme {
             Theme::Decision => self.roll(5) < 3,
-            Theme::Any | Theme::Section => self.roll(10) == 0,
+            Theme::Any | Theme::Section | Theme::Device => self.roll(10) == 0,
             Theme::Signal | Theme::Calculation => self.roll(4) == 0,
             Theme::Crowd | Theme::Contest | Theme::Gathering | Theme::Suspension => false,
         }
@@ -170,6 +172,9 @@ impl Dice {
         }
         if self.notifies() {
             return self.isr_notify(objects);
+        }
+        if self.raises() {
+            return self.isr_source_op(objects);
         }
         if has_daemon && self.commands() {
             return self.isr_command(objects, has_daemon);
@@ -217,7 +222,7 @@ impl Dice {
         ops.finish()
     }
 
-    /// A handler.
+    /// A handler, which is armed at reset and comes at any time, or not.
     fn handler(
         &mut self,
         alloc: Global,
@@ -232,7 +237,8 @@ impl Dice {
         self.has_answer = false;
         let ops = self.isr_ops(alloc, objects, has_daemon)?;
         let name = String::from_str(alloc, name).ok()?;
-        Some(HandlerDefinition::new(name, ops))
+        let (armed, apart) = self.arrival();
+        Some(HandlerDefinition::new(name, ops).arriving(armed, apart))
     }
 
     /// Adds a handler of this name.

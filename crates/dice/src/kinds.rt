@@ -46,8 +46,12 @@ impl Dice {
     /// A face for an object: tasks crowd about queues and semaphores, and contend mostly for mutexes.
     fn face(&mut self) -> u32 {
         match self.theme {
-            Theme::Any | Theme::Gathering | Theme::Suspension | Theme::Section | Theme::Signal =>
-                self.roll(16),
+            Theme::Any
+            | Theme::Gathering
+            | Theme::Suspension
+            | Theme::Section
+            | Theme::Signal
+            | Theme::Device => self.roll(16),
             Theme::Crowd | Theme::Decision | Theme::Calculation => self.roll(11),
             Theme::Contest => 12 + self.roll(4),
         }
@@ -64,7 +68,8 @@ impl Dice {
             | Theme::Suspension
             | Theme::Decision
             | Theme::Section
-            | Theme::Calculation => 1 + self.roll(2),
+            | Theme::Calculation
+            | Theme::Device => 1 + self.roll(2),
             Theme::Gathering | Theme::Signal => self.roll(2),
         }
     }

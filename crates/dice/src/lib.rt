@@ -18,6 +18,7 @@ use std::alloc::Global;
 mod blocks;
 mod calls;
 mod daemon;
+mod devices;
 mod handler_ops;
 mod handlers;
 mod kinds;
@@ -74,6 +75,9 @@ enum Theme {
     Signal,
     /// They load and store variables, calculate, and pass on what was answered. So do the handlers.
     Calculation,
+    /// They arm and disarm handlers, raise them, and cancel that. So do the handlers, some of which are disarmed at reset or come only
+    /// so many ticks apart.
+    Device,
 }
 
 /// What calls do.
@@ -165,6 +169,11 @@ impl Dice {
         Dice::of_theme(seed, Theme::Calculation)
     }
 
+    /// For applications whose tasks and handlers arm, disarm and raise handlers.
+    pub fn raising(seed: u32) -> Self {
+        Dice::of_theme(seed, Theme::Device)
+    }
+
     /// A number below this one.
     pub fn roll(&mut self, sides: u32) -> u32
         requires { 0 < sides }
@@ -226,7 +235,7 @@ impl Dice {
             Theme::Any => 0,
             Theme::Crowd => 4,
             Theme::Contest | Theme::Gathering | Theme::Suspension | Theme::Signal => 2,
-            Theme::Decision | Theme::Section | Theme::Calculation => 1,
+            Theme::Decision | Theme::Section | Theme::Calculation | Theme::Device => 1,
         };
         match first + self.roll(8 - first) {
             0..=1 => Some(0),
@@ -323,9 +332,9 @@ impl Dice {
         }
     }
 
-    /// Up to eight ops, or 24 where tasks go by what was answered, or 16 where they open critical sections, notify or calculate. An op that
-    /// isn't allowed in its place is left out. Then sections that are open are closed, the scheduler is resumed if it is suspended,
-    /// mutexes that are held are given back, and branches and loops that are open end.
+    /// Up to eight ops, or 24 where tasks go by what was answered, or 16 where they open critical sections, notify, calculate or
+    /// raise handlers. An op that isn't allowed in its place is left out. Then sections that are open are closed, the scheduler is
+    /// resumed if it is suspended, mutexes that are held are given back, and branches and loops that are open end.
     fn script(&mut self, alloc: Global, objects: &[ObjectKind]) -> Option<Script>
         ensures script { IfSome result (λ script. IsScript script) }
         ensures known { IfSome result (λ script. AreKnown objects.now script) }
@@ -354,9 +363,8 @@ impl Dice {
         ensures { result < 4 }
     {
         match self.theme {
-            Theme::Any | Theme::Decision | Theme::Section | Theme::Calculation => self.roll(
-                3,
-            ) as u8,
+            Theme::Any | Theme::Decision | Theme::Section | Theme::Calculation | Theme::Device =>
+                self.roll(3) as u8,
             Theme::Crowd | Theme::Gathering | Theme::Signal if self.is_late => 1
                 + self.roll(2) as u8,
             Theme::Crowd | Theme::Gathering | Theme::Signal => 1,
@@ -424,7 +432,7 @@ impl Dice {
         self.role = late;
         self.is_late = !matches!(
             self.theme,
-            Theme::Any | Theme::Decision | Theme::Section | Theme::Calculation
+            Theme::Any | Theme::Decision | Theme::Section | Theme::Calculation | Theme::Device
         );
         self.present = 2;
         self.add_task(&mut tasks, alloc, "c", objects)?;

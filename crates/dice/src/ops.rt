@@ -166,6 +166,9 @@ impl Dice {
         if self.calculates() {
             return self.task_value_op(objects);
         }
+        if self.raises() {
+            return self.task_source_op(objects);
+        }
         if self.theme == Theme::Signal && self.roll(4) == 0 {
             return self.notification_clear(objects);
         }
@@ -273,6 +276,7 @@ impl Dice {
             Theme::Section => self.masking_op(objects),
             Theme::Signal => self.signalling_op(objects),
             Theme::Calculation => self.calculating_op(objects),
+            Theme::Device => self.raising_op(objects),
         }
     }
 }

@@ -65,6 +65,9 @@ impl Dice {
         if self.calculates() {
             return self.task_value_op(objects);
         }
+        if self.raises() {
+            return self.task_source_op(objects);
+        }
         if self.theme == Theme::Signal && self.roll(4) == 0 {
             return self.notification_clear(objects);
         }

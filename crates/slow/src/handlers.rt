@@ -43,6 +43,10 @@ impl SlowKernel {
                 self.write(What::IsrMark(handler, number));
                 return last;
             }
+            IsrOp::Source(other, what) => {
+                self.act_by_handler(other, what);
+                return last;
+            }
             IsrOp::Expect(_) | IsrOp::If(_) | IsrOp::Else | IsrOp::EndIf => return last,
             IsrOp::Do(object, access) => {
                 self.count_isr_sent(object.number, access, last);
@@ -93,7 +97,7 @@ impl SlowKernel {
     }
 
     /// The handler does its ops one after another, and nothing switches. What is behind an `expect` that fails isn't done.
-    fn handle(&mut self, app: &App, handler: HandlerId) {
+    pub(super) fn handle(&mut self, app: &App, handler: HandlerId) {
         let Some(definition) = app.handlers().get(handler.number as usize) else {
             return;
         };
@@ -114,34 +118,45 @@ impl SlowKernel {
         }
     }
 
-    /// The base interrupts of this tick come.
-    pub(super) fn interrupt(&mut self, app: &App) {
+    /// The base interrupts of this tick come, whether they are armed or not.
+    fn come_by_file(&mut self, app: &App) {
         for interrupt in app.interrupts() {
             if interrupt.tick as u64 == self.elapsed {
                 let is_suspended = self.is_scheduler_suspended();
+                let is_armed = self.is_armed(interrupt.handler);
                 count_if(&mut self.tally.held_interrupts, is_suspended);
-                self.handle(app, interrupt.handler);
+                count_if(&mut self.tally.disarmed_interrupts, !is_armed);
+                self.come(app, interrupt.handler);
             }
         }
     }
 
+    /// The base interrupts of this tick come, and then the handlers that were raised for it before the first of these came.
+    pub(super) fn interrupt(&mut self, app: &App) {
+        let raised = self.lower_due(app);
+        self.come_by_file(app);
+        self.come_raised(app, raised);
+    }
+
     /// The interrupt comes before a step: the tick; or a handler, after which a task of higher priority runs, if there is one.
-    pub(super) fn inject(&mut self, app: &App, source: HandlerId) {
+    pub(super) fn serve(&mut self, app: &App, source: HandlerId) {
         if app.is_tick(source) {
             count_if(&mut self.tally.injected_ticks, true);
             self.tick(app);
             return;
         }
-        self.handle(app, source);
+        self.come(app, source);
         if self.may_switch() {
             self.preempt();
         }
     }
 
-    /// Whether a base interrupt comes at a later tick.
+    /// Whether a base interrupt comes at a later tick, or a handler is raised.
     pub(super) fn is_interrupt_to_come(&self, app: &App) -> bool {
-        app.interrupts()
+        let is_in_file = app
+            .interrupts()
             .iter()
-            .any(|interrupt| interrupt.tick as u64 > self.elapsed)
+            .any(|interrupt| interrupt.tick as u64 > self.elapsed);
+        is_in_file || self.is_any_raised()
     }
 }

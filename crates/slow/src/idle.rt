@@ -33,6 +33,7 @@ impl SlowKernel {
         let is_to_zero = last == 4_294_967_296;
         let is_to_interrupt = ticks == self.ticks_to_interrupt(app);
         let is_to_wake = ticks == self.ticks_to_wake();
+        let is_to_raised = ticks == self.ticks_to_raised();
         let is_to_limit = self.elapsed.saturating_add(ticks) == limits.ticks;
         count_if(&mut self.tally.jumps, ticks > 1);
         count_if(&mut self.tally.wrapping_jumps, ticks > 1 && has_wrapped);
@@ -43,6 +44,7 @@ impl SlowKernel {
         );
         count_if(&mut self.tally.jumps_to_wake, ticks > 1 && is_to_wake);
         count_if(&mut self.tally.jumps_to_limit, ticks > 1 && is_to_limit);
+        count_if(&mut self.tally.jumps_to_raised, ticks > 1 && is_to_raised);
     }
 
     /// All the ticks pass that come before anything happens, but none past the limit; one at least. The scheduler isn't suspended.
@@ -51,6 +53,7 @@ impl SlowKernel {
         let ticks = most
             .min(self.ticks_to_wake())
             .min(self.ticks_to_interrupt(app))
+            .min(self.ticks_to_raised())
             .max(1);
         self.count_jump(app, limits, ticks);
         self.time = self.time.wrapping_add(ticks);

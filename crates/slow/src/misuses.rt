@@ -29,6 +29,7 @@ fn may_be_held(op: Op) -> bool {
             | Op::EnterCritical
             | Op::ExitCritical
             | Op::Value(_)
+            | Op::Source(_, _)
     )
 }
 

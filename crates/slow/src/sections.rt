@@ -24,8 +24,12 @@ impl SlowKernel {
         self.complete(app, id, self.task(id));
     }
 
-    /// An interrupt that is injected while a critical section is open is pending from then on, once.
+    /// An interrupt that is injected while a critical section is open is pending from then on, once, if it can come.
     fn pend(&mut self, app: &App, source: HandlerId) {
+        if !self.may_inject(source) {
+            return;
+        }
+        self.note_coming(app, source);
         let is_again = self.pending[source.number as usize];
         let is_tick = app.is_tick(source);
         count_if(&mut self.tally.pending_handlers, !is_tick);
@@ -51,7 +55,10 @@ impl SlowKernel {
         self.pending = [false; 17];
         for number in 0..17_u8 {
             if pending[number as usize] {
-                self.inject(app, HandlerId { number });
+                let source = HandlerId { number };
+                let is_armed = self.is_armed(source);
+                count_if(&mut self.tally.disarmed_pending, !is_armed);
+                self.serve(app, source);
             }
         }
     }

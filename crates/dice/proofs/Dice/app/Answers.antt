@@ -58,14 +58,14 @@ new-requires-2 c =
       few_groups = omega arith;
       few_variables = few_variables;
       handlers =
-          are_handlers app has_daemon kinds refl refl four more has handlers
+          are_handlers app has_daemon kinds refl refl four more three has handlers
           (subst (λ (objects : List ObjectKind). AllByRecursion (IsKnownHandler has_daemon objects) handlers)
           c.as_slice-2.ensures.value c.in_ok-handlers.ensures.known);
       few_handlers = omega arith;
       interrupts = are_interrupts app three app.interrupts formed.first formed.last formed.known;
       few_interrupts = omega arith;
       few_at_once = λ tick. let here = few_at app tick in omega arith;
-      known = known_of_file app has_daemon is refl more are;
+      known = known_of_file app has_daemon is refl more three are;
       points = subst (AllByRecursion (IsPointEntry app)) (sym c.new-points.ensures.items) tt;
       few_points = subst (λ (points : List PointEntry). length points ≤ most_points) (sym c.new-points.ensures.items) (omega arith);
       start = omega arith;

@@ -1,4 +1,5 @@
 use Rattle.std.proofs.Common.{rules, sym, subst}
+use Rattle.model.specs.Application.{Handler}
 use Rattle.dice.specs.Known.{IsKnownHandler}
 use Rattle.dice.proofs.Known.{known_handler}
 use Rattle.dice.proofs.Dice.handler.Goals as goal
@@ -6,5 +7,9 @@ use Rattle.dice.proofs.Dice.handler.Goals as goal
 pub returns : goal.returns
 returns c =
     let ops = c.in_ok-ops.ensures in
-    subst (IsKnownHandler c.args.has_daemon c.args.objects.now) (sym c.new.ensures)
-    (known_handler c.args.has_daemon c.args.objects.now _ (search rules) ops.few ops.nests ops.known)
+    let arrival = c.arrival-armed.result in
+    subst (IsKnownHandler c.args.has_daemon c.args.objects.now) (sym c.arriving.ensures)
+    (subst
+    (λ (h : Handler). IsKnownHandler c.args.has_daemon c.args.objects.now (record h { armed = arrival.0; apart = arrival.1 }))
+    (sym c.new.ensures)
+    (known_handler c.args.has_daemon c.args.objects.now _ (search rules) ops.few c.arrival-armed.ensures ops.nests ops.known))

@@ -9,5 +9,5 @@ loop-preserved c = (
       let more = few-pushed c.loop.script c.push.new.self End c.push.result c.push.ensures.ok c.push.ensures.err in
       omega (arith, few, more)),
   known-pushed _ c.loop.script c.push.new.self End c.push.result c.push.ensures.ok
-      c.push.ensures.err c.loop.invariant.1 (λ app same two four more. refl),
+      c.push.ensures.err c.loop.invariant.1 (λ app same two four more three. refl),
 )
