@@ -1,6 +1,6 @@
 """Random applications, with campaigns of all steps of two handlers: half of them with a daemon, half of them tickless, half of them with
 branches and endless tasks, half of them with handlers that look at answers and tasks that measure time, half of them with critical
-sections, half of them with variables, and half of them with notifications."""
+sections, half of them with variables, half of them with notifications, and half of them with handlers that are armed and raised."""
 import json
 import random
 
@@ -104,7 +104,9 @@ class Applications:
     endless. Of sixteen seeds the last eight have handlers that look at answers, and tasks that measure time. Of thirty-two seeds the last
     sixteen have critical sections, some of which are closed too often, too seldom, or after an op that they bar. Of sixty-four seeds the
     last thirty-two have variables, which tasks and handlers load, compute with and store, some of them where nothing was answered. Of a
-    hundred and twenty-eight seeds the last sixty-four have notifications, which tasks and handlers send, and tasks take and wait for."""
+    hundred and twenty-eight seeds the last sixty-four have notifications, which tasks and handlers send, and tasks take and wait for. Of two
+    hundred and fifty-six seeds the last half have handlers that can't come at each moment, since they are disarmed or have just come, and
+    that devices raise."""
 
     def __init__(self, seed):
         self.dice, self.has_daemon = random.Random(seed), seed % 2 == 0
@@ -121,12 +123,22 @@ class Applications:
         self.value_dice = random.Random(f"values {seed}")
         # And one with notifications.
         self.notifies, self.note_dice = seed % 128 > 63, random.Random(f"notifications {seed}")
+        # And one whose handlers can't come at each moment.
+        self.has_devices, self.device_dice = seed % 256 > 127, random.Random(f"devices {seed}")
 
     def ticks(self, few):
         """So few ticks, and in a tickless application perhaps many."""
         return self.long_dice.choice((few, 3, 40, 700, 4000, 86400000, 4294967294)) if self.is_tickless else few
 
+    def device_op(self):
+        """An op about when a handler comes, of a task or a handler."""
+        dice, name = self.device_dice, self.device_dice.choice("hhk")
+        later = dice.choice((1, 1, 2, 3, self.ticks(2) % 1000000 + 1))
+        return dice.choice((f"arm {name}", f"arm {name}", f"disarm {name}", f"raise {name} {later}", f"raise {name} {later}", f"cancel {name}"))
+
     def task_op(self):
+        if self.has_devices and self.device_dice.random() < 0.3:
+            return self.device_op()
         if self.variables and self.value_dice.random() < 0.4:
             return self.value_dice.choice((self.value_op(), self.value_op(), "send q answer 0", "overwrite r answer"))
         return self.own_op() if self.notifies and self.note_dice.random() < 0.4 else self.plain_task_op()
@@ -192,6 +204,8 @@ class Applications:
         return f'[[task]]\nname = "{name}"\npriority = {priority}\n{endless}script = {json.dumps(script)}'
 
     def handler_op(self):
+        if self.has_devices and self.device_dice.random() < 0.3:
+            return self.device_op()
         if self.variables and self.value_dice.random() < 0.4:
             return self.value_dice.choice((self.value_op(), self.value_op(), "send q answer"))
         if self.notifies and self.note_dice.random() < 0.4:
@@ -203,6 +217,13 @@ class Applications:
         if self.looks:
             return self.loaded(Handlers(self.look_dice, self.handler_op, self.variables).handler())
         return self.loaded([self.handler_op() for _ in range(self.dice.randrange(6))])
+
+    def arrivals(self):
+        """Whether a handler is armed at reset, and how far apart it comes."""
+        if not self.has_devices:
+            return ""
+        armed = self.device_dice.choice(("", "armed = true\n", "armed = false\n", "armed = false\n"))
+        return f"\n{armed}{self.device_dice.choice(('', '', 'apart = 1', 'apart = 3', f'apart = {self.ticks(2) % 1000001}'))}".rstrip("\n")
 
     def loaded(self, ops):
         """These ops, mostly with a load before them, so that there is a number from the first one on."""
@@ -238,7 +259,7 @@ class Applications:
         parts.append('binary = [{ name = "s" }]\nmutex = [{ name = "m" }]')
         parts.append(f'counting = [{{ name = "c", max = 2, initial = {self.dice.randrange(2)} }}]\ngroup = [{{ name = "g" }}]')
         parts += [self.section_of_variables()]
-        parts += [f'[[handler]]\nname = "{name}"\nops = {json.dumps(ops)}' for name, ops in zip("hk", handlers)]
+        parts += [f'[[handler]]\nname = "{name}"\nops = {json.dumps(ops)}{self.arrivals()}' for name, ops in zip("hk", handlers)]
         parts += [self.task(it) for it in "ab"]
         parts += [self.daemon()] if self.has_daemon else []
         parts += self.interrupts()

@@ -1,13 +1,12 @@
 """Cases of tests/program: scripts with branches, and tasks that serve for ever, at the limits of docs/FORMATS.md; and random scripts and
 handlers, of which what is written is found here too, op by op, from docs/KERNEL.md."""
-import hashlib
 import json
 import random
 
 from applications import Scripts
 from cases import case, equal
 from edges import GROUP, LARGEST, QUEUE, faults, task, tells
-from running import TASK, run_text
+from running import TASK, run_text, runs_are
 
 STEPS = 300
 BLOCKS = ("repeat", "if")
@@ -108,10 +107,7 @@ MILLION_STEPS = {
 
 @case
 def runs_of_a_million_steps_with_branches_as_an_independent_program_has_them():
-    for name, (parts, verdict, digest) in MILLION_STEPS.items():
-        _, out, err = run_text("".join(parts))
-        found = out.partition(b"\n")[0].decode(), hashlib.sha256(out).hexdigest()[:16], err
-        assert found == (f"base: {verdict}", digest, b""), f"{name}: {found}"
+    runs_are(MILLION_STEPS)
 
 
 # -- random scripts of one task

@@ -6,6 +6,7 @@ import os
 import select
 import shutil
 import subprocess
+import sys
 import tempfile
 import time
 
@@ -115,8 +116,10 @@ def browser():
     read_there, writer = os.pipe()
     reader, write_there = os.pipe()
     folder = tempfile.mkdtemp(prefix="rtosim-browser-")
-    words = ["sh", "-c", 'exec "$@" 3<&$IN 4>&$OUT', "sh", find_browser(), f"--user-data-dir={folder}", *FLAGS]
-    env = {**os.environ, "IN": str(read_there), "OUT": str(write_there), "HOME": folder, "TMPDIR": folder}
+    # (a shell may know no descriptor above 9)
+    start = "import os, sys; os.dup2(int(sys.argv[1]), 3); os.dup2(int(sys.argv[2]), 4); os.execv(sys.argv[3], sys.argv[3:])"
+    words = [sys.executable, "-c", start, str(read_there), str(write_there), find_browser(), f"--user-data-dir={folder}", *FLAGS]
+    env = {**os.environ, "HOME": folder, "TMPDIR": folder}
     quiet = {"stdin": subprocess.DEVNULL, "stdout": subprocess.DEVNULL, "stderr": subprocess.DEVNULL}
     process = subprocess.Popen(words, env=env, pass_fds=(read_there, write_there), **quiet)
     os.close(read_there)

@@ -197,7 +197,7 @@ def the_docs_show_what_is_written():
         *lines, last = block.splitlines(True)
         assert re.fullmatch(r"1 file: ([12] faults?|no faults), (1 warning|no warnings)\n", last), last
         assert "".join(lines) in written, block
-    equal(len(shown), 9)
+    equal(len(shown), 10)
     name, text, wanted = next(it for it in mistakes() if it[0] == "a typo of an op")
     for kind in ("json", "github"):
         found = output_of(kind, text, stand_in_for(wanted), "drv.toml")

@@ -1,9 +1,8 @@
 """Files at the limits of docs/FORMATS.md and one past them: what is taken, and what is refused with which line."""
-import hashlib
 import json
 
 from cases import case, equal
-from running import HANDLER, TASK, TASK_RUNS, campaign_text, is_refused, points, run_text
+from running import HANDLER, TASK, TASK_RUNS, campaign_text, is_refused, points, run_text, runs_are
 
 LARGEST = 4294967295
 QUEUE = '[[queue]]\nname = "q"\nlength = 1\n'
@@ -148,10 +147,7 @@ MILLION_STEPS = {
 
 @case
 def runs_of_a_million_steps_as_an_independent_program_has_them():
-    for name, (parts, verdict, digest) in MILLION_STEPS.items():
-        _, out, err = run_text("".join(parts))
-        found = out.partition(b"\n")[0].decode(), hashlib.sha256(out).hexdigest()[:16], err
-        assert found == (f"base: {verdict}", digest, b""), f"{name}: {found}"
+    runs_are(MILLION_STEPS)
 
 
 @case

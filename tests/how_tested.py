@@ -6,13 +6,10 @@ from typing import List
 
 from cases import case
 from claims import is_near
-from running import ROOT, refused_texts, stored
+from prose import text_of
+from running import ROOT, refused_texts
 
 COMPARISON = "crates/comparison/src"
-
-
-def text_of(name: str) -> str:
-    return stored(name).decode()
 
 
 def said_of(what: str) -> str:

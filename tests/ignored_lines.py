@@ -59,7 +59,7 @@ def what_is_ignored_is_named_on_standard_error_and_nothing_else_changes(a):
     a.start()
     for text, lines in SAID.items():
         a.write(f"{a.room}/file.toml", text)
-        for command in ("run", "campaign"):
+        for command in ("run", "campaign", "explore"):
             status, out, err = a.start(command, "file.toml", cwd=a.room)
             equal((status, out, err), (1, f"{BUILT}<{command}>\n{text}", said(lines, "file.toml")))
 
@@ -75,7 +75,8 @@ def file_is_found_among_the_words(a):
     a.write(f"{a.room}/uart", IGNORED.replace("campain", "limit"))
     a.write(f"{a.room}/-x", IGNORED)
     named = [("run", "a file"), ("run", "--at", "2", "--handler", "uart", "a file"), ("run", "a file", "--at=2", "--handler=uart", "--state"),
-             ("campaign", "--heads", "--workers", "uart", "--quiet", "a file"), ("campaign", "--only", "uart", "--", "a file")]
+             ("campaign", "--heads", "--workers", "uart", "--quiet", "a file"), ("campaign", "--only", "uart", "--", "a file"),
+             ("explore", "--injections", "2", "a file"), ("explore", "a file", "--handlers", "uart", "--injections=2")]
     for words in named:
         equal(a.start(*words, cwd=a.room)[::2], (0, said([LINE], "a file")))
     equal(a.start("run", "--", "-x", cwd=a.room)[2], said([LINE], "-x"))

@@ -8,7 +8,7 @@ from cases import case, equal
 from checkout import BUILT, PATIENCE, TESTS
 
 TOOL = f"{os.path.dirname(TESTS)}/tools/memory.sh"
-REFUSED = "rtosim: RTOSIM_MEMORY is to be a number of bytes, or of K, M or G, as 8G, and at least 1M\n"
+REFUSED = "rtosim: RTOSIM_MEMORY must be a size such as 8G (K, M, G, or bytes), and at least 1M\n"
 # What a system without a limit says in the file of version 1.
 NO_LIMIT = 9223372036854771712
 LEAST = 16 << 10

@@ -4,10 +4,12 @@ import re
 from applications import Applications
 from cases import case, equal
 from running import PATIENCE, campaign_text, run, run_text, shown_on_a_terminal, stored, write
+from stored import FILES
 
 HEAD = re.compile(r"(?:base|row [0-9]+ at [^:]*): (.*) in ([0-9]+) steps, ([0-9]+) ticks")
 TWO_HANDLERS = "tests/runs/placements/two_handlers_for_ten_thousand_steps.toml"
 CAMPAIGN = re.compile(r"\[campaign\]\npoints = .*\n")
+HANDLERS = re.compile(r'(?m)^\[\[handler\]\]\nname = "(.*)"')
 
 
 def heads_of(text):
@@ -31,7 +33,8 @@ def longer(ends, handlers):
 
 
 def ends_by_runs(text, handlers, most):
-    """How the run of each placement ends. Of an application without points."""
+    """How the run of each placement ends. Of an application without points, of whose injections none but the first may be one that
+    can't come: the row of a point that begins with such a one isn't reached."""
     ends = {(): heads_of(run_text(text)[1])[0]}
     last = dict(ends)
     for _ in range(most):
@@ -41,7 +44,7 @@ def ends_by_runs(text, handlers, most):
         points = ", ".join(f'"{words_of(it, handlers)}"' for it in placements)
         rows = heads_of(campaign_text(f"{text}[campaign]\npoints = [{points}]\n", "--heads")[1])
         equal(len(rows), len(placements))
-        last = dict(zip(placements, rows))
+        last = {it: row for it, row in zip(placements, rows) if not row[0].startswith("not reached, ")}
         ends.update(last)
     return ends
 
@@ -96,6 +99,62 @@ def three_injections_of_random_applications_beside_triples():
 def one_handler_of_two_of_random_applications():
     for seed in range(16):
         is_found(without_points(Applications(seed).text(), 20), "k", 3, "--handlers", "k")
+
+
+MARKED = re.compile(r"(?m)^ops = \[(?:(.))?")
+
+
+def marked(text):
+    """The application with handlers that mark when they come."""
+    return MARKED.sub(lambda it: 'ops = ["mark 77"' + (f", {it[1]}" if it[1] != "]" else "]"), text)
+
+
+def rows_of(text, points):
+    """The rows of these points without their numbers and points, each its head and its lines."""
+    report = campaign_text(f"{text}[campaign]\npoints = [{points}]\n")[1].decode()
+    rows = [it for it in re.split(r"(?m)^(?=row |total )", report) if it.startswith("row ")]
+    return [re.sub(r"^row \d+ at [^:]*: (?:not reached, )?", "", it) for it in rows]
+
+
+def ends_of_those_that_come(text, handlers, most):
+    """How the run of each placement ends, of an application without critical sections whose handlers mark when they come: an injection
+    comes if the run differs from that without it."""
+    base = run_text(text)[1].decode().replace("base: ", "", 1)
+    ends, last, runs = {(): heads_of(run_text(text)[1])[0]}, {(): heads_of(run_text(text)[1])[0]}, {(): base}
+    for _ in range(most):
+        placements = longer(last, handlers)
+        found = rows_of(text, ", ".join(f'"{words_of(it, handlers)}"' for it in placements)) if placements else []
+        equal(len(found), len(placements))
+        come = {it: row for it, row in zip(placements, found) if row != runs[it[:-1]]}
+        last = {it: heads_of(f"base: {row}".encode())[0] for it, row in come.items()}
+        runs.update(come)
+        ends.update(last)
+    return ends
+
+
+@case
+def injections_of_handlers_that_cannot_always_come_beside_runs():
+    for most, steps, seeds in ((1, 120, 128), (2, 20, 128), (3, 9, 64)):
+        count = 0
+        for seed in range(128, 128 + seeds):
+            # (those without critical sections)
+            text = marked(without_points(Applications(seed).text(), steps))
+            if seed % 32 > 15 or run_text(text)[0] > 1:
+                continue
+            status, report = report_of(ends_of_those_that_come(text, "hk", most), "hk")
+            write("application.toml", text)
+            equal((seed, run("explore", "application.toml", "--injections", str(most))), (seed, (status, report.encode(), b"")))
+            count += 1
+        assert count > 20, count
+
+
+@case
+def one_injection_of_handlers_that_are_armed_or_raised():
+    found = [it for it in FILES if re.fullmatch(r"tests/runs/(arming|device)/.*\.toml", it)]
+    assert len(found) > 15, len(found)
+    for path in found:
+        text = CAMPAIGN.sub("", stored(path).decode())
+        is_found(text, HANDLERS.findall(text), 1)
 
 
 @case

@@ -3,9 +3,12 @@ counts is so; about documents and comments: their words are plain; and about def
 
     tests/prose.py    prints each sentence that is too long, and each word that isn't plain, with its file and line; and how often each
                       document has each pattern that stops a reader"""
+import ast
 import glob
+import io
 import os
 import re
+import tokenize
 
 import believed
 from cases import case, equal, holds
@@ -13,7 +16,7 @@ from running import ROOT, stored
 
 MOST_WORDS = 40
 MOST_COLUMNS = 132
-README_LINES = 130
+README_LINES = 134
 MOST_LINES = 600
 BEGINS_A_BLOCK = re.compile(r"^\s*(#+|[-*]|\d+\.)\s")
 # Words that stop a reader: a program or a value prints, reports, says or shows; it is, lies or holds, and represents or means.
@@ -28,14 +31,13 @@ PATTERNS = {name: re.compile(rf"(?i)\b(?:{form})\b") for name, form in (
 )}
 # How often a page has a pattern; what isn't named here it never has.
 REACHED = {
-    "README.md": {"where": 1},
     "CHANGELOG.md": {"where": 1},
     "docs/ADDING_AN_OP.md": {"where": 2},
-    "docs/ARCHITECTURE.md": {"where": 1, "answers": 2},
+    "docs/ARCHITECTURE.md": {"where": 1, "answers": 1},
     "docs/CI.md": {"where": 1},
     "docs/DRIVERS.md": {"where": 1, "answers": 1},
     "docs/EXPLORING.md": {"where": 1},
-    "docs/FORMATS.md": {"where": 3, "answers": 1},
+    "docs/FORMATS.md": {"where": 2, "answers": 1},
     "docs/FROM_C.md": {"where": 2},
     "docs/GLOSSARY.md": {"where": 8},
     "docs/KERNEL.md": {"where": 8},
@@ -52,7 +54,6 @@ REACHED = {
     "docs/decisions/file_check.md": {"where": 1},
     "docs/decisions/files.md": {"where": 1},
     "docs/decisions/kernel_code.md": {"where": 1},
-    "docs/decisions/kernel_rules.md": {"where": 1},
     "docs/decisions/launcher.md": {"where": 1, "behind": 1},
     "docs/decisions/reports.md": {"where": 1},
     "docs/decisions/text_of_lines.md": {"where": 1},
@@ -73,6 +74,8 @@ REACHED_BY_COMMENTS = {
     "report": {"where": 3, "of which": 4}, "grammar": {"where": 1}, "script": {"where": 6}, "requests": {"of which": 1},
     "deal": {"of which": 2}, "campaign": {"where": 6, "of which": 1}, "jobs": {}, "rtosim": {"is to be": 1},
 }
+# The same of the comments, and of the first texts of files, classes and functions, of folders in Python.
+REACHED_BY_PYTHON = {"bin": {"where": 1}, "tools/rtosim_from_c": {"where": 24, "answers": 32, "of which": 3}}
 # How long an answer takes that isn't proved, wherever it is said.
 PREVIEWED = re.compile(r"(?i)\b(?:in|within|takes|under|than) (?:a|one|two|three) minutes?\b(?: or two)?")
 # Crates in whose proofs no comment has a pattern.
@@ -166,6 +169,19 @@ def comments_of(crate):
     return "\n".join(line for name, lines in commented() if name.startswith(f"crates/{crate}/") for _, line in lines)
 
 
+def said_in_python(text):
+    """The comments of a file in Python, and the texts with which it, its classes and its functions begin."""
+    said = [it.string for it in tokenize.generate_tokens(io.StringIO(text).readline) if it.type == tokenize.COMMENT]
+    nodes = [it for it in ast.walk(ast.parse(text)) if isinstance(it, (ast.Module, ast.ClassDef, ast.FunctionDef))]
+    return "\n".join([*said, *filter(None, map(ast.get_docstring, nodes))])
+
+
+def said_in_folder(folder):
+    names = sorted(os.path.relpath(it, ROOT) for it in glob.glob(f"{ROOT}/{folder}/*") if os.path.isfile(it))
+    texts = [text_of(it) for it in names]
+    return "\n".join(said_in_python(text) for name, text in zip(names, texts) if name.endswith(".py") or re.match("#!.*python3", text))
+
+
 def patterns_in(text):
     """How often prose has each pattern that it has; code and the addresses of links don't count."""
     return patterns_of("\n".join(line for _, line in prose_lines(text)))
@@ -232,6 +248,21 @@ def comments_of_proofs_in_plain_english_stay_so():
         names = sorted(os.path.relpath(it, ROOT) for it in glob.glob(f"{ROOT}/crates/{crate}/proofs/**/*.antt", recursive=True))
         assert names, crate
         equal([(it, found) for it in names for found in [patterns_of("\n".join(line for _, line in comments(text_of(it), "--")))] if found], [])
+
+
+@case
+def comments_of_python_in_plain_english_stay_so():
+    for folder, reached in REACHED_BY_PYTHON.items():
+        said = said_in_folder(folder)
+        assert len(said) > 1000, folder
+        more = {it: number for it, number in patterns_of(said).items() if number > reached.get(it, 0)}
+        equal((folder, more), (folder, {}))
+
+
+@case
+def what_is_said_in_python_is_its_comments_and_first_texts():
+    text = '"""One."""\nword = "where"  # two\n\ndef three():\n    """Three\n    four."""\n    return "behind"\n'
+    equal(said_in_python(text), "# two\nOne.\nThree\nfour.")
 
 
 @case
@@ -323,7 +354,7 @@ def the_definitions_to_begin_with_are_short():
     first = ("Switching", "Time", "Objects", "Calls", "Step", "Run")
     holds(readme, ", ".join(first))
     lines = sum(believed.lines_of(f"crates/model/specs/{it}.antt") for it in first)
-    assert lines < 350, lines
+    assert lines < 360, lines
 
 
 if __name__ == "__main__":

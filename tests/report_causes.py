@@ -10,6 +10,7 @@ import tempfile
 import xml.etree.ElementTree as tree
 from unittest import mock
 
+import views
 from cases import case, equal, holds
 from report_classes import failed_beyond
 from reports import (LOST, PATIENCE, RACE, ROOT, RUN, STAND_IN, Dice, good, good_and_quick, quick, read, report_of, run, source_of, stand_in,
@@ -292,14 +293,38 @@ def a_campaign_of_points_that_are_not_reached_fails_a_build():
     base = ["0 0 run -\n"]
     rows = [(step, "h", False, "pass in 1 steps, 0 ticks", base) for step in (7, 8)]
     write_known([])
-    told = "rtosim-report: no point of the campaign is reached: the base run ends before each of them, so nothing is tested; --allow-empty takes it\n"
+    told = "rtosim-report: no point of the campaign is reached: the base run ends before each of them, or its interrupt can't come there, so nothing is tested; --allow-empty takes it\n"
     text = report_of(rows)
     for words in (["classes"], ["junit"]):
         equal(quick(*words, "--accept", "known", text=text)[::2], (1, told))
         equal(quick(*words, "--accept", "known", "--allow-empty", text=text)[::2], (0, ""))
     suite = tree.fromstring(good_and_quick("junit", text=text)).find("testsuite")
     equal([it.get("name") for it in suite.findall("testcase")], ["as the base run", "no point of the campaign is reached"])
+    some = report_of([(0, "h", True, "pass in 1 steps, 0 ticks", base), *rows])
+    holds(good_and_quick("classes", "--failing", text=some), "3 rows, 2 of them not reached: 3 pass, 0 fail in 0 classes; ")
+    for words, more in (([], 1), (["--allow-empty"], 0)):
+        suite = tree.fromstring(good_and_quick("junit", "--rows", *words, text=text)).find("testsuite")
+        equal((suite.get("tests"), suite.get("failures"), len(suite.findall(".//failure"))), (f"{2 + more}", f"{more}", more))
+        equal([it.get("name") for it in suite.findall("testcase")], ["row 0 at 7 h", "row 1 at 8 h", "no point of the campaign is reached"][: 2 + more])
     equal(quick("classes", "--accept", "known", text=report_of([*rows, (0, "h", True, *rows[0][3:])]))[::2], (0, ""))
+
+
+@case
+def a_report_without_the_rows_that_fail_fails_a_build():
+    """It was made with --only, so it says how many there are and not which. One of the rows that fail is judged."""
+    write_known([])
+    text = read(f"{ROOT}/examples/lost_wake_up.report").decode()
+    for words in (["--only", "pass"], ["--only", "pass", "--heads"], ["--only", "stuck,pass"], ["--only", "stuck"]):
+        view = views.view(text, words)
+        for command in (["classes"], ["classes", "--failing"], ["junit"], ["classes", "--allow-empty"]):
+            told = "rtosim-report: rows that fail are left out of the report: 2 rows, by --only\n"
+            equal((words, command, quick(*command, "--accept", "known", text=view)[::2]), (words, command, (1, told)))
+        holds(good_and_quick("classes", text=view), "  rows that fail are left out of the report: 2 rows, by --only\n")
+        suite = tree.fromstring(good_and_quick("junit", text=view)).find("testsuite")
+        equal([it.get("name") for it in suite.findall("testcase") if it.find("failure") is not None], ["rows that fail are left out of the report"])
+    write_known(good_and_quick("classes", "--failing", "--names", text=text).splitlines())
+    for words in (["--only", "failing"], ["--only", "check"], ["--shard", "2/2"]):
+        equal((words, quick("classes", "--accept", "known", text=views.view(text, words))[0]), (words, 0))
 
 
 @case

@@ -9,7 +9,7 @@ import xml.etree.ElementTree as tree
 
 from cases import case, equal, holds
 from reports import PATIENCE, PROGRAM, ROOT, SVG, good, good_and_quick, is_refused, overlaps, read, report_of, source_of, stand_in
-from running import session
+from running import session, write
 from rtosim_report import base_run, end_state, endings, timeline
 from rtosim_report.application import read_application
 from rtosim_report.reading import lone_run_of
@@ -122,10 +122,10 @@ def a_check_of_no_answer_and_of_each_condition():
         (["time", "expect 3"], ["0 3 call a 0 time = 3\n"], None), (["time", "work 1"], ["0 3 call a 0 time = 3\n"], None),
         (["time"], [], None),
     ):
-        written("a.toml", f"[[queue]]\nname = 'q'\nlength = 1\n[[task]]\nname = 'a'\npriority = 1\nscript = {ops}\n")
+        write("a.toml", f"[[queue]]\nname = 'q'\nlength = 1\n[[task]]\nname = 'a'\npriority = 1\nscript = {ops}\n")
         at = max(len(ops) - 1, 1) if len(ops) > 1 else 0
         end = f"check a {at if wanted or len(ops) > 1 else 1} in {len(ops)} steps, 0 ticks"
-        written("report", f"base: {end}\n" + "".join(lines))
+        write("report", f"base: {end}\n" + "".join(lines))
         table = good_and_quick("classes", "report", "--application", "a.toml").splitlines()
         equal((ops, table[1:]), (ops, [f"  check a {at}: {wanted}"] if wanted else []))
         assert "answer is" not in good_and_quick("classes", "report")
@@ -179,11 +179,6 @@ def each_stored_state_is_read():
     assert count > 15, count
 
 
-def written(name, text):
-    with open(name, "w") as it:
-        it.write(text)
-
-
 def with_its_state(file=f"{ROOT}/examples/opposite_locks.session"):
     """The row of the example, as the program writes it with its state."""
     return next(lines for words, lines, _ in session(os.path.relpath(file, ROOT)) if words[-1] == "--state").decode()
@@ -191,7 +186,7 @@ def with_its_state(file=f"{ROOT}/examples/opposite_locks.session"):
 
 @case
 def a_row_with_its_state_needs_no_program():
-    written("row", with_its_state())
+    write("row", with_its_state())
     words = ["row", "--base", f"{LOCKS}.out", "--application", f"{LOCKS}.toml"]
     shown = good_and_quick("show", "0", *words).splitlines()
     equal([it[2:] for it in shown[-3:-1]], list(STUCK))
@@ -210,7 +205,7 @@ def a_row_with_its_state_needs_no_program():
 def the_base_run_with_its_state():
     name = "a_task_that_locks_what_it_holds"
     _, lines, _ = next(session(f"tests/runs/state/{name}.session"))
-    written("base", lines.decode())
+    write("base", lines.decode())
     given = ["base", "--application", f"{STATES}/{name}.toml"]
     table = good_and_quick("classes", *given)
     equal(table.splitlines()[1:], [
@@ -223,7 +218,7 @@ def the_base_run_with_its_state():
 def a_long_ending_is_cut_into_lines_of_a_picture():
     name = "each_word_but_awake"
     _, lines, _ = next(session(f"tests/runs/state/{name}.session"))
-    written("base", lines.decode())
+    write("base", lines.decode())
     picture = good_and_quick("svg", "base", "--application", f"{STATES}/{name}.toml")
     width = float(re.search(r'viewBox="0 0 ([0-9.]+) ', picture)[1])
     texts = [it for it in tree.fromstring(picture).iter(f"{SVG}text") if it.get("class") == "fails"]
@@ -273,15 +268,15 @@ def the_program_is_asked_for_the_state():
 def a_program_that_writes_no_state_is_asked_once():
     """Of an older one, which refuses the word, and of one that writes another run, no more is said than without it."""
     rows = [(step, "h", True, f"stuck in 9 steps, {step} ticks", [f"{step} 0 isr h 0 send = {step % 2}\n"]) for step in range(6)]
-    written("report", report_of(rows))
-    written("a.toml", '[[task]]\nname = "a"\npriority = 1\nscript = ["time"]\n')
+    write("report", report_of(rows))
+    write("a.toml", '[[task]]\nname = "a"\npriority = 1\nscript = ["time"]\n')
     companion = stand_in(os.getcwd(), "opposite_locks", report=f"{os.getcwd()}/report")
     given = ["--application", "a.toml", "--by", "exact"]
     table = good("classes", *given, companion=companion)
     equal((table.count("rtosim run"), read("bin/rtosim.calls").decode().count("--state")), (6, 1))
     assert "deadlock" not in table and '"' not in table, table
     # the state of another run is that of another file
-    written("bin/rtosim.at.0.h", with_its_state())
+    write("bin/rtosim.at.0.h", with_its_state())
     equal(good("classes", *given, companion=companion), table)
 
 
@@ -290,7 +285,7 @@ def a_row_of_several_injections_has_no_words_of_a_program():
     file = f"{ROOT}/tests/of_several/two_presses"
     companion = stand_in(os.getcwd(), report=f"{file}.report")
     shutil.copy(f"{file}.out", "out")
-    written("bin/rtosim", read("bin/rtosim").decode().replace(f"{ROOT}/examples/lost_wake_up.out", f"{file}.out"))
+    write("bin/rtosim", read("bin/rtosim").decode().replace(f"{ROOT}/examples/lost_wake_up.out", f"{file}.out"))
     table = good("classes", "--failing", "--application", f"{file}.toml", companion=companion)
     holds(table, 'check main 2: "expect ')
     assert b"--state" not in read("bin/rtosim.calls")

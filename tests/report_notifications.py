@@ -3,7 +3,7 @@ import glob
 import xml.etree.ElementTree as tree
 
 from cases import case, equal, holds
-from reports import ROOT, SVG, good, good_and_quick, overlaps, read, source_of
+from reports import ROOT, SVG, good, good_and_quick, overlaps, read, rows, source_of
 from rtosim_report import application, causes, checks, endings, injections, timeline
 from rtosim_report.lanes import Doing, WindowKind
 from rtosim_report.reading import lone_run_of
@@ -16,10 +16,6 @@ OF_NOTIFIED = ("--application", f"{NOTIFIED}.toml", "--base", f"{NOTIFIED}.out")
 
 def known(name):
     return application.read_application(f"{name}.toml")
-
-
-def rows(name):
-    return [it for it in source_of(read(f"{name}.report").decode()).reader() if it.head.row is not None]
 
 
 def base_of(name, texts=None):

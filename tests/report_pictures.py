@@ -26,6 +26,8 @@ def pictures():
         if name.endswith(".out"):
             yield good_and_quick("svg", f"{ROOT}/examples/{name}")
             yield good_and_quick("svg", f"{ROOT}/examples/{name}", "--application", f"{ROOT}/examples/{name[:-3]}toml")
+    day = f"{ROOT}/examples/a_day_of_a_sensor"
+    yield good_and_quick("svg", "--row", "20", f"{day}.report", "--application", f"{day}.toml", "--base", f"{day}.out")
     yield good_and_quick("svg", f"{SUSPENDS}.out", "--application", f"{SUSPENDS}.toml")
     yield good_and_quick("svg", text=long_run(2_000))
 
@@ -55,8 +57,42 @@ def pictures_are_legible():
         equal(overlaps(root.iter(f"{SVG}text")), [])
         width = float(root.get("width"))
         assert width < 1400 and all(float(it.get("x", 0)) + float(it.get("width")) <= width for it in root.iter(f"{SVG}rect"))
+        equal([it.text for it in root.iter(f"{SVG}text") if right_of(it) > width], [])
         holds(text, "prefers-color-scheme:dark")
     assert len(good_and_quick("svg", text=long_run(200_000))) < 12_000_000
+
+
+def right_of(text):
+    """Where a text of a picture ends."""
+    width = 7.3 * len(text.text) * (14 / 12 if "title" in text.get("class", "") else 1)
+    return float(text.get("x")) + width / (2 if text.get("text-anchor") == "middle" else 1)
+
+
+@case
+def the_answer_of_a_failed_check_is_seen():
+    """Also where there is no room for it: those beside it give way. In all rows of all examples that end with a check."""
+    seen = 0
+    for name in sorted(it[:-7] for folder in ("", "drivers/") for it in (folder + it for it in os.listdir(f"{ROOT}/examples/{folder}")) if it.endswith(".report")):
+        file = f"{ROOT}/examples/{name}"
+        for run in Source(open(f"{file}.report", "rb")).reader():
+            if run.head.verdict.kind != "check" or seen > 300:
+                continue
+            lines = [it.split() for it in run.text.decode().splitlines() if f" {run.head.verdict.task} " in it and it.split()[2] in ("call", "isr")]
+            words = ["--row", f"{run.head.row}", f"{file}.report", "--application", f"{file}.toml", "--base", f"{file}.out"]
+            shown = [it.text for it in tree.fromstring(good_and_quick("svg", *words)).iter(f"{SVG}text")]
+            answer = re.compile(rf"{lines[-1][5]}( \w+)? = {lines[-1][7]}(, .*|( :\d+)?)( \+\d+)?$")
+            assert any(answer.search(it) for it in shown), (name, run.head.text(), lines[-1], shown)
+            seen += 1
+    assert seen > 100, seen
+
+
+@case
+def what_an_injected_handler_does_is_seen():
+    """Though what it does at its ticks has texts in the same place."""
+    lines = [f"{step} {step} isr uart {op} {word} = 1\n" for step in (3, 4, 5) for op, word in enumerate(("send", "load", "add", "store"))]
+    text = "row 0 at 5 uart: check a 2 in 60 steps, 9 ticks\n" + "".join(lines).replace("5 5 isr uart 3 store = 1", "5 5 isr uart 3 store = 7") + "59 9 call a 1 load = 0\n"
+    shown = [it.text for it in tree.fromstring(good_and_quick("svg", "--row", "0", text=text)).iter(f"{SVG}text")]
+    assert any(it.startswith("send = 1, load = 1, add = 1, store = 7") for it in shown), shown
 
 
 @case

@@ -5,7 +5,7 @@ import re
 import xml.etree.ElementTree as tree
 
 from cases import case, equal, holds
-from reports import ROOT, SVG, good, good_and_quick, is_refused, overlaps, read, report_of, run, source_of, stand_in, total_of
+from reports import ROOT, SVG, good, good_and_quick, is_refused, overlaps, read, report_of, report_of_pairs, run, source_of, stand_in, total_of
 from rtosim_report import base_run
 from rtosim_report.injections import groups_of, own_stretches, position_of
 from rtosim_report.pairs import pairs_of
@@ -173,7 +173,9 @@ def points_of_pairs_are_written():
     equal(list(map(Point.text, pairs_of(["a", "b"], range(7, 8), 1))), ["7 a 7 b", "7 b 7 a", "7 a 8 b", "7 b 8 a"])
     equal(list(map(Point.text, pairs_of(["a"], range(999_999, 1_000_001), 2)))[1:], ["999999 a 1000000 a", "1000000 a 1000000 a"])
     for words, part in ((["--handler", "usart"], "no handler is called usart; the handlers are uart"),
-                        (["--handler", "uart", "--within", "999999"], "a campaign has at most 1,000,000 points")):
+                        (["--handler", "uart", "--within", "999999"], "a campaign has at most 1,000,000 points"),
+                        (["--handler", "uart", "--from", "20"], "no first step is left: --from is 20, and the base run has 20 steps"),
+                        (["--handler", "uart", "--from", "9", "--to", "8"], "no first step is left: --from is 9, and --to is 8")):
         status, out, err = run("pairs", "driver.toml", *words, companion=companion)
         equal((status, out), (2, b""))
         holds(err.decode(), part)
@@ -181,10 +183,7 @@ def points_of_pairs_are_written():
 
 @case
 def pairs_have_a_map_of_two_axes():
-    end = "check a 1 in 30 steps, 9 ticks"
-    rows = [(f"{first} h {first + more}", "k", True, end if more == 2 else "pass in 30 steps, 9 ticks", ["29 9 run -\n"])
-            for first in range(8) for more in range(4)]
-    picture = good_and_quick("svg", "--campaign", text=report_of(rows))
+    picture = good_and_quick("svg", "--campaign", text=report_of_pairs())
     holds(picture, "h before a step, and then k so many steps later</text>")
     equal(len(re.findall(r"<title>h before step [0-9]+, k 2 later: class 1 \(check a 1\): 1 row</title>", picture)), 8)
     equal(len(re.findall(r"<title>h before step [0-9]+, k [013] later: class 2 \(pass\): 1 row</title>", picture)), 24)

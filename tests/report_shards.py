@@ -9,6 +9,7 @@ import sys
 
 from cases import case, equal, holds
 from reports import COMPANION, LOST, PATIENCE, RACE, ROOT, Dice, good, quick, read, report_of, run, total_of
+from running import write
 from rtosim_report.faults import Fault
 from rtosim_report.joining import Part
 
@@ -34,13 +35,8 @@ def shards(text, number, view=""):
     rows = rows_of(text)
     names = [f"part.{it}" for it in range(1, number + 1)]
     for at, name in enumerate(names):
-        put(name, seen(rows[at * len(rows) // number : (at + 1) * len(rows) // number], view))
+        write(name, seen(rows[at * len(rows) // number : (at + 1) * len(rows) // number], view))
     return names
-
-
-def put(name, text):
-    with open(name, "w") as it:
-        it.write(text)
 
 
 def stored(view):
@@ -113,7 +109,7 @@ def a_part_of_another_application_is_named():
     other = "it is of another application, or made with other words"
     old, new = (read(f"{ROOT}/tests/of_versions/{it}.report").decode() for it in ("old", "new"))
     names = shards(old, 2)
-    put("other", read(shards(new, 2)[1]).decode())
+    write("other", read(shards(new, 2)[1]).decode())
     shards(old, 2)
     is_not_joined([names[0], "other"], "other: its rows begin otherwise than those of the parts before it", other)
     whole = read(PRESSES).decode()
@@ -123,10 +119,10 @@ def a_part_of_another_application_is_named():
     for changed in (text.replace("0 0 call ui 0 delay = 0", "0 0 call ui 0 delay = 1"),
                     text[:last] + text[last:].replace("3 2 call main 1 send = 1", "3 2 call main 1 send = 0"),
                     text.replace("not reached, pass in 24 steps, 8 ticks", "not reached, pass in 3 steps, 8 ticks")):
-        put("changed", changed)
+        write("changed", changed)
         is_not_joined([one, "changed"], other)
     names = shards(whole, 8)
-    put("changed", read(names[6]).decode().replace("0 0 call ui 0 delay = 0", "0 0 call ui 0 delay = 1"))
+    write("changed", read(names[6]).decode().replace("0 0 call ui 0 delay = 0", "0 0 call ui 0 delay = 1"))
     is_not_joined([*names[:6], "changed", names[7]], "changed: ", other)
 
 
@@ -145,10 +141,10 @@ def two_base_runs_that_are_not_reached_are_named():
 def parts_of_other_words_are_named():
     whole = read(LOST).decode()
     heads = shards(whole, 2, "heads")
-    put("heads", read(heads[1]).decode())
+    write("heads", read(heads[1]).decode())
     one, two = shards(whole, 2)
     is_not_joined([one, "heads"], "heads: it isn't of the same words as the parts before it: some rows are heads alone (--heads)")
-    put("failing", read(shards(whole, 2, "failing")[0]).decode())
+    write("failing", read(shards(whole, 2, "failing")[0]).decode())
     shards(whole, 2)
     why = "rows that end with `pass` are there and left out (--only)"
     is_not_joined(["failing", two], f"part.2: it isn't of the same words as the parts before it: {why}")
@@ -158,10 +154,10 @@ def parts_of_other_words_are_named():
 def a_part_that_lacks_a_row_is_named():
     one, two = shards(read(LOST).decode(), 2)
     rows = rows_of(read(two).decode())
-    put(two, read(two).decode().replace(rows[3], ""))
+    write(two, read(two).decode().replace(rows[3], ""))
     is_not_joined([one, two], "part.2: it has ", "that end with `pass`, and its total line counts ")
     one, two = shards(read(PRESSES).decode(), 2)
-    put(two, read(two).decode().replace("not reached 1", "not reached 0"))
+    write(two, read(two).decode().replace("not reached 1", "not reached 0"))
     is_not_joined([one, two], "part.2: it has 1 row that are not reached, and its total line counts 0")
 
 
@@ -181,7 +177,7 @@ def what_is_no_report_of_a_shard_is_named():
         (text.replace(" in 12", " on 12", 1), "expected `row N at"), (lines[0], of_a_run),
         (read(f"{ROOT}/examples/timeout_race.out").decode(), of_a_run),
     ):
-        put(two, broken)
+        write(two, broken)
         is_not_joined([one, two], "rtosim-report: part.2: ", why)
     is_not_joined([one, "not\x1b there"], "cannot read not\\x1b there: No such file or directory")
     equal(run("join")[:2], (2, b""))
@@ -227,7 +223,7 @@ def a_joined_report_that_can_not_be_written_is_told():
 def a_part_that_is_changed_between_the_looks_is_told():
     for name, change in zip(shards(read(LOST).decode(), 2), (lambda text: text + b"x", lambda text: text[:100])):
         part = Part(name)
-        put(name, change(read(name)).decode())
+        write(name, change(read(name)).decode())
         try:
             part.copy_rows(None)
         except Fault as fault:

@@ -7,6 +7,7 @@ import xml.etree.ElementTree as tree
 from cases import case, equal, holds
 from report_page import classes_in_a_browser, data_of
 from reports import ROOT, SVG, good, good_and_quick, is_refused, overlaps, quick, read, stand_in
+from running import write
 from rtosim_report import application, source_map
 
 MAPS = f"{ROOT}/tests/of_c"
@@ -17,11 +18,6 @@ COMMANDS = (["classes"], ["show", "2"], ["json"], ["junit"], ["svg", "--row", "2
             ["perfetto", "--row", "2"], ["vcd", "--row", "2"])
 PLACE = "examples/c/lost_wake_up.c"
 LOOK, SUSPENSION = "if (uxQueueMessagesWaiting(rx) == 0) {", "vTaskSuspend(NULL);"
-
-
-def write(name, text):
-    with open(name, "w") as it:
-        it.write(text)
 
 
 def made_map(name, **changes):
@@ -67,8 +63,9 @@ def each_of_several_interrupts_has_its_moment():
     words = [f"{PRESSES}.report", "--application", f"{PRESSES}.toml", "--base", f"{PRESSES}.out", "--source", made_map(PRESSES)]
     table = good_and_quick("classes", "--failing", *words)
     first = re.search(r"\n +\d+ .*? (\d+) key (\d+) key .*\n((?: {7}.*\n)*)", table)
-    moments = [it for it in first[3].splitlines() if re.match(r" {7}(key comes|and before) ", it)]
-    assert sum("key comes" in it for it in moments) == 2 - (first[1] == first[2]), table
+    moments = [it for it in first[3].splitlines() if re.match(r" {7}(key \(before step \d+\) comes|key comes|and before) ", it)]
+    steps = [f"key (before step {it}) comes" for it in dict.fromkeys(first.groups()[:2])]
+    assert len(steps) == 2 and all(sum(step in it for it in moments) == 1 for step in steps), table
     for it in moments:
         assert " while " in it or re.search(r"driver\.c:\d+: C of \w+", it), it
 

@@ -7,6 +7,7 @@ import xml.etree.ElementTree as tree
 
 from cases import case, equal, holds
 from reports import COMPANION, ROOT, SVG, good, good_and_quick, overlaps, run, source_of, total_of
+from running import write
 from rtosim_report import application, base_run, injections, timeline
 from rtosim_report.explored import ends_of
 from rtosim_report.lanes import Doing
@@ -126,11 +127,6 @@ CHECKED_ROW = "row 0 at 0 tick: check a 1 in 2 steps, 1 ticks\n0 1 call a 0 time
 FOUND = "pass: 2 placements, least is none in 2 steps, 0 ticks\ncheck a 1: 1 placement, least is 0 tick in 2 steps, 1 ticks\ntotal 3\n"
 ALL = ((UPDATE, UPDATE_ROW), (SECTION, SECTION_ROW), (HELD, HELD_ROW), (ORDER, ORDER_ROW), (SUSPENDED, SUSPENDED_ROW), (TWO, TWO_ROW),
        (LIMIT, LIMIT_ROW), (JUMP, JUMP_ROW), (NAMED, NAMED_ROW), (CHECKED, CHECKED_ROW))
-
-
-def write(name, text):
-    with open(name, "w") as it:
-        it.write(text)
 
 
 def known(text):

@@ -4,7 +4,7 @@ import json
 import xml.etree.ElementTree as tree
 
 from cases import case, equal, holds
-from reports import ROOT, SVG, good, good_and_quick, overlaps, read, source_of
+from reports import ROOT, SVG, good, good_and_quick, overlaps, read, rows
 from rtosim_report import application, checks, end_state, progress, timeline
 from rtosim_report.lanes import Doing
 from rtosim_report.progress import Walker, holds as condition_holds
@@ -16,10 +16,6 @@ LOST_UPDATE, VALUES, FLAG = (f"{FOLDER}/{it}" for it in ("lost_update", "values"
 
 def of(name):
     return ("--application", f"{name}.toml", "--base", f"{name}.out")
-
-
-def rows(name):
-    return [it for it in source_of(read(f"{name}.report").decode()).reader() if it.head.row is not None]
 
 
 def built(name, row, base=None):

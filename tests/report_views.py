@@ -8,8 +8,9 @@ from unittest import mock
 
 import views
 from cases import case, equal, holds
-from reports import LOST, PATIENCE, PROGRAM, RACE, ROOT, Dice, good, good_and_quick, quick, read, report_of, run, source_of, stand_in
-from rtosim_report import application, base_run, causes, classes, made, whereabouts
+from reports import PATIENCE, PROGRAM, RACE, ROOT, Dice, good, good_and_quick, quick, read, report_of, run, source_of, stand_in
+from running import write
+from rtosim_report import application, base_run, classes, made, whereabouts
 
 LOCKS = f"{ROOT}/examples/opposite_locks"
 OLD = f"{ROOT}/tests/of_versions/old"
@@ -39,11 +40,6 @@ script = ["repeat {outer}", "repeat {inner}", "work 4", "take go 0", "time", "en
 [campaign]
 points = {points}
 """
-
-
-def write(name, text):
-    with open(name, "w") as it:
-        it.write(text)
 
 
 def calls_of(companion, *words):
@@ -121,17 +117,35 @@ def a_shard_is_a_report_of_its_own():
 
 @case
 def heads_alone_are_classed_by_these():
-    name = f"{LOCKS}.report"
-    heads = viewed(name, "--heads")
-    table = good_and_quick("classes", heads, "--application", f"{LOCKS}.toml").splitlines()
-    equal(table[:2], ["22 rows in 2 classes; the base run is not known",
-                      "  the report has heads alone (--heads), so rows are classed by these"])
-    holds(table[5], "stuck [button]")
-    for words in (["html"], ["svg", "--campaign"], ["junit"], ["classes", "--names"]):
-        good_and_quick(*words, heads)
-    for words in (["show", "3"], ["svg", "--row", "3"], ["vcd", "--row", "3"], ["perfetto", "--row", "3"]):
-        status, _, err = quick(*words, heads)
-        equal((status, err), (3, "rtosim-report: the report has heads alone (--heads): this needs whole rows\n"))
+    """Also where no row passes, and nothing but the heads shows that the rows had lines."""
+    for name, row, cause, every in ((LOCKS, 11, "stuck [button]", "22 rows in 2 classes"), (f"{ROOT}/examples/lost_wake_up", 2, "check main: expect 0 [uart]", "20 rows in 2 classes")):
+        for view in (["--heads"], ["--heads", "--only", "failing"], ["--heads", "--only", "failing", "--shard", "1/1"]):
+            heads = viewed(f"{name}.report", *view)
+            table = good_and_quick("classes", heads, "--application", f"{name}.toml").splitlines()
+            equal(table[:2], [f"{every if view == ['--heads'] else every.replace('2 classes', '1 class')}; the base run is not known",
+                              "  the report has heads alone (--heads), so rows are classed by these"])
+            holds(table[5], cause)
+            # (no command is named that needs a whole row)
+            holds(good_and_quick("classes", heads), f"\n       --at {row} --handler ")
+            for words in (["html"], ["svg", "--campaign"], ["junit"], ["classes", "--names"]):
+                good_and_quick(*words, heads)
+            for words in (["show", f"{row}"], ["svg", "--row", f"{row}"], ["vcd", "--row", f"{row}"], ["perfetto", "--row", f"{row}"]):
+                status, _, err = quick(*words, heads)
+                equal((words, status, err), (words, 3, "rtosim-report: the report has heads alone (--heads): this needs whole rows\n"))
+
+
+@case
+def heads_are_compared_with_whole_rows_by_their_heads():
+    whole, heads, failing = f"{ROOT}/examples/lost_wake_up.report", viewed(f"{ROOT}/examples/lost_wake_up.report", "--heads"), "failing"
+    os.rename(heads, "heads")
+    os.rename(viewed(whole, "--heads", "--only", "failing"), failing)
+    for old, new in ((whole, "heads"), ("heads", whole), (failing, whole), (whole, failing)):
+        status, out, err = quick("compare", old, new)
+        equal((old, new, status), (old, new, 0))
+        holds(out, " now; 0 failures new")
+        holds(err, "heads alone are read, so the rows of both are classed by these\n")
+    good_and_quick("compare", "heads", failing)
+    good_and_quick("compare", whole, whole)
 
 
 @case
@@ -188,6 +202,7 @@ def what_is_too_large_is_classed_by_its_heads_and_said_beforehand():
     env = {**os.environ, "PYTHONPATH": f"{os.getcwd()}/tools", "PYTHONDONTWRITEBYTECODE": "1"}
     for size, words, lines, told in (
         (900, ["classes"], "22 rows in 2 classes", (b"19 rows that pass: some 1 MB, classed by their heads; --whole reads them, in some 1 second\n",)),
+        (0, ["classes", "--failing"], "menu runs, where the base run has saver: lock = 1; then menu: take = 1", (b"3 rows that fail: ",)),
         (0, ["classes"], "stuck [button]", (b"3 rows that fail: ",)), (900, ["classes", "--whole"], "22 rows in 6 classes", (b", read in some 1 second\n",)),
         (0, ["classes", "--failing"], "deadlock: menu waits for saver", (b"3 rows that fail: ",)),
         (0, ["html"], "stuck [button]", (b"3 rows that fail: ",)), (1 << 30, ["classes"], "22 rows in 6 classes", ()),

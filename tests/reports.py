@@ -97,6 +97,14 @@ def report_of(rows):
     return "".join(head + "".join(row[4]) for head, row in zip(heads, rows)) + total_of(heads)
 
 
+def report_of_pairs():
+    """A report of points of two injections: those in which the second comes two steps after the first fail."""
+    end = "check a 1 in 30 steps, 9 ticks"
+    rows = [(f"{first} h {first + more}", "k", True, end if more == 2 else "pass in 30 steps, 9 ticks", ["29 9 run -\n"])
+            for first in range(8) for more in range(4)]
+    return report_of(rows)
+
+
 class Dice:
     """Random reports that obey the grammar, and of which rows begin as the base run does."""
 
@@ -162,6 +170,11 @@ def overlaps(texts):
 
 def source_of(text):
     return Source(io.BytesIO(text.encode()))
+
+
+def rows(name):
+    """The rows of a stored report."""
+    return [it for it in source_of(read(f"{name}.report").decode()).reader() if it.head.row is not None]
 
 
 def timeline_of(name, row=None, folder="examples"):

@@ -3,6 +3,7 @@
 The program is crates/rtosim/out/rtosim, or the one that is named as the argument."""
 import contextlib
 import fcntl
+import hashlib
 import json
 import os
 import pty
@@ -41,6 +42,14 @@ def run_text(text, *words, name="application.toml", **how):
     """Runs the program on a file with this text, with these words after its name."""
     write(name, text)
     return run("run", name, *words, **how)
+
+
+def runs_are(wanted):
+    """By a name the parts of a file, what its head line says, and the beginning of the sum of its output."""
+    for name, (parts, verdict, digest) in wanted.items():
+        _, out, err = run_text("".join(parts))
+        found = out.partition(b"\n")[0].decode(), hashlib.sha256(out).hexdigest()[:16], err
+        assert found == (f"base: {verdict}", digest, b""), f"{name}: {found}"
 
 
 def campaign_text(text, *words, **how):

@@ -40,6 +40,5 @@ def no_job_takes_more_stack_than_it_takes_at_the_start():
         write(path, content)
     equal(least_stack(0, "campaign", "campaign.toml"), least_stack(3, "campaign", "not there"))
     equal(least_stack(0, "explore", "states.toml"), least_stack(3, "explore", "not there"))
-    at_start = least_stack(3, "run", "not there")
-    for words in (["events.toml"], ["events.toml", "--state"], ["campaign.toml", "--at", "0", "--handler", "h"]):
-        equal(least_stack(0, "run", *words), at_start)
+    for path, options in (("events.toml", []), ("events.toml", ["--state"]), ("campaign.toml", ["--at", "0", "--handler", "h"])):
+        equal(least_stack(0, "run", path, *options), least_stack(3, "run", "not there", *options))

@@ -1,5 +1,5 @@
-# Names on standard error the sections and keys of an application that `run` and `campaign` ignore, as rtosim-check does. bin/rtosim reads
-# this file into a POSIX shell.
+# Names on standard error the sections and keys of an application that `run`, `campaign` and `explore` ignore, as rtosim-check does.
+# bin/rtosim reads this file into a POSIX shell.
 #
 #     look_for_ignored PROGRAM WORDS   the words begin with the command; PROGRAM is empty where none is built
 #
@@ -11,7 +11,7 @@ find_file() {
     file=
     while [ $# -gt 0 ]; do
         case $1 in
-        --at | --handler | --workers | --stride | --block | --only | --shard | --point)
+        --at | --handler | --workers | --stride | --block | --only | --shard | --point | --injections | --handlers)
             [ $# -gt 1 ] || return 1
             shift
             ;;
@@ -35,7 +35,7 @@ look_for_ignored() {
     asked=$1
     case ${RTOSIM_WARNINGS-},${2-} in
     no,*) return ;;
-    *,run | *,campaign) shift 2 ;;
+    *,run | *,campaign | *,explore) shift 2 ;;
     *) return ;;
     esac
     find_file "$@" && [ -f "$file" ] && [ -r "$file" ] && command -v awk >/dev/null || return

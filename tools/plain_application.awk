@@ -6,8 +6,9 @@ BEGIN {
     for (at = 1; at <= count; at++) is_single[sections[at]] = sections[at] ~ /^(limits|daemon|campaign)$/
     for (name in is_single) headers[is_single[name] ? "[" name "]" : "[[" name "]]"] = name
     keys = ".start .tickless limits.ticks limits.steps queue.name queue.length binary.name counting.name counting.max counting.initial"
-    keys = keys " mutex.name group.name variable.name variable.initial handler.name handler.ops task.name task.priority task.endless"
-    keys = keys " task.script daemon.name daemon.priority daemon.length interrupt.tick interrupt.handler campaign.points"
+    keys = keys " mutex.name group.name variable.name variable.initial handler.name handler.ops handler.armed handler.apart task.name"
+    keys = keys " task.priority task.endless task.script daemon.name daemon.priority daemon.length interrupt.tick interrupt.handler"
+    keys = keys " campaign.points"
     count = split(keys, names, " ")
     for (at = 1; at <= count; at++) is_known[names[at]] = 1
     section = ""

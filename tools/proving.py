@@ -17,6 +17,11 @@ MEMORY_OF_A_CRATE = 3_000_000_000
 KEEPS_MEMORY = {"MIMALLOC_PURGE_DELAY": "-1"}
 
 
+def sources() -> str:
+    """The digest of the sources, as bin/built prints it."""
+    return subprocess.run([f"{ROOT}/bin/built", "sources"], stdout=subprocess.PIPE, text=True, check=False).stdout.strip()
+
+
 def crates(root: str = ROOT) -> Dict[str, List[str]]:
     """The crates by name, each with the names of those that it builds on, lowest first."""
     found = {}

@@ -63,13 +63,16 @@ class Application:
 
     def ticks_of_points(self) -> int:
         """How many ticks a point injects at most: a run may end so many ticks after its limit, which isn't tested between them."""
-        texts = [it.value for it in self.points() or [] if isinstance(it, Text)]
-        ticks = [sum(handler == TICK for _, handler in pairs_of(it)) for it in texts]
-        return 0 if self.has_handler(TICK) else max(ticks, default=0)
+        if self.has_handler(TICK):
+            return 0
+        texts = [it.value for it in self.points() or [] if isinstance(it, Text) and TICK in it.value]
+        return max((sum(handler == TICK for _, handler in pairs_of(it)) for it in texts), default=0)
 
 
 def range_of(text: str) -> Optional[Tuple[str, int, int]]:
     """The handler of `all HANDLER` or `all HANDLER from A to B`, and its first and its last step; None if the text is another point."""
+    if "all" not in text:
+        return None
     words = [it for it in text.split(" ") if it]
     if len(words) == 2 and words[0] == "all":
         return words[1], STEP.least, STEP.most

@@ -5,7 +5,7 @@ import itertools
 import os
 from typing import Any, Iterator, List, Optional, Set, Tuple
 
-from . import base_ends, explaining, ignored, points, reach, unused, values
+from . import arriving, base_ends, explaining, ignored, points, reach, unused, values
 from .application import Application
 from .base_ends import BaseEnd
 from .findings import FAULT, Checked, Finding
@@ -159,7 +159,8 @@ def taken(name: str, content: bytes, end: BaseEnd, program: Program) -> Checked:
         if line is not None and Verdict(line).kind == "TooManyPoints":
             checked.add(points.too_many(nodes, end.steps, root, line))
     looks = (ignored.warnings(root, program.ignored), unused.warnings(application), points.warnings(application, end.steps),
-             reach.warnings(application), values.warnings(application), base_ends.warnings(application, end))
+             reach.warnings(application), values.warnings(application), base_ends.warnings(application, end),
+             arriving.warnings(application))
     for it in without_ends(list(itertools.chain(*looks))):
         checked.add(it)
     checked.findings.sort(key=lambda it: (it.severity, it.span or (0, 0)))

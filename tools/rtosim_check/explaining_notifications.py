@@ -1,4 +1,5 @@
-"""What is said of ops on notifications: of an action that is none, and of FreeRTOS's functions with their arguments in their order."""
+"""What is said of ops on notifications: of an action that is none, and of functions of FreeRTOS and CMSIS with their arguments in their
+order."""
 from __future__ import annotations
 
 from typing import Dict, List, Optional
@@ -10,12 +11,17 @@ from .nearness import did_you_mean, near, quoted
 from .problem import Problem
 
 ACTIONS = (*Action.ALONE, *Action.FRONTS)
-# FreeRTOS's functions in small letters and without FromISR, each with the words of its op; {0} is its first argument.
+# The functions in small letters and without FromISR, each with the words of its op; {0} is its first argument.
 FUNCTIONS = {
     "xtasknotify": "notify {0} {2} {1}", "xtasknotifygive": "notify {0} increment", "vtasknotifygive": "notify {0} increment",
     "ultasknotifytake": "notify_take {0} {1}", "xtasknotifywait": "notify_wait {0} {1} {2}", "xtasknotifystateclear": "notify_clear",
-    "ultasknotifyvalueclear": "notify_value_clear {0}",
+    "ultasknotifyvalueclear": "notify_value_clear {0}", "osthreadflagsset": "notify {0} bits {1}", **{
+        f"{start}nvic_{function}": op for start in ("", "hal_")
+        for function, op in (("enableirq", "arm {0}"), ("disableirq", "disarm {0}"), ("setpendingirq", "raise {0} 1"),
+                             ("clearpendingirq", "cancel {0}"))},
 }
+# How CMSIS ends the number of an interrupt, which has its handler's name before it.
+NUMBER_OF_IRQ = "_IRQn"
 # The index of the wait among the arguments.
 WAITS = {"ultasknotifytake": 1, "xtasknotifywait": 2}
 ALL_BITS = ("ulong_max", "uint32_max", "~0", "-1")
@@ -72,11 +78,11 @@ def meant_masks(word: str, given: List[str]) -> Optional[str]:
     return f"{word} 0 {MOST_OF_A_NUMBER} {given[0]}" if is_alone else None
 
 
-# -- functions of FreeRTOS
+# -- functions of FreeRTOS and CMSIS
 
 
 def op_of_function(name: str, arguments: List[str]) -> Optional[str]:
-    """The op that a function of FreeRTOS is with these arguments, storage and NULL left out; None if it is none."""
+    """The op that such a function is with these arguments, storage and NULL left out; None if it is none."""
     function = name.lower().replace("fromisr", "")
     form, wait_at = FUNCTIONS.get(function), WAITS.get(function)
     try:
@@ -96,4 +102,9 @@ def argument_of(word: str, is_wait: bool) -> str:
         return "forever"
     if lower in ALL_BITS:
         return str(MOST_OF_A_NUMBER)
-    return MEANT_ACTIONS.get(lower) or MEANT_CHOICES.get(lower) or decimal_digits(word) or word
+    return MEANT_ACTIONS.get(lower) or MEANT_CHOICES.get(lower) or decimal_digits(word) or without_number(word)
+
+
+def without_number(word: str) -> str:
+    """The handler's name, of the number of an interrupt."""
+    return word[: -len(NUMBER_OF_IRQ)] if word.endswith(NUMBER_OF_IRQ) else word

@@ -8,11 +8,12 @@ from .application import Application, Entry
 from .context import Context
 from .explaining_arguments import problem_of_argument
 from .explaining_conditions import problem_of_condition
-from .explaining_notifications import meant_masks, op_of_function, problem_of_action
+from .explaining_notifications import meant_masks, op_of_function, problem_of_action, without_number
 from .explaining_points import listed
 from .explaining_values import listed_ops, meant_of_variable, no_variable, problem_of_assignment, problem_of_comparison
-from .formats import (Argument, CALLED, COMMANDS, DAEMON, EXAMPLE_OF_A_DAEMON, KIN, LOOPS, MASKS, MEANT_OPS, MEASURES, NOT_SIMULATED_OPS,
-                      Name, OPS, OWN, Op, PLURALS, SECTIONS, Wait, Word, not_simulated, not_simulated_rule, op_of, words_of)
+from .formats import (Argument, CALLED, COMMANDS, DAEMON, EXAMPLE_OF_A_DAEMON, KIN, LOOPS, MASKS, MEANT_OPS, MEASURES, Name, OPS, OWN, Op,
+                      PLURALS, SECTIONS, TICK, Wait, Word, op_of, words_of)
+from .left_out import NOT_SIMULATED_OPS, not_simulated, not_simulated_rule, why_needless
 from .nearness import did_you_mean, near, quoted
 from .nodes import Integer, Text
 from .problem import Explanation, Problem, told
@@ -63,7 +64,7 @@ def text_of(words: List[Word]) -> str:
 def problem_of_characters(text: str, section: str) -> Optional[Problem]:
     """Another separator than a space, or a call as in C."""
     call = CALL.fullmatch(text)
-    if call and not not_simulated(call[1], NOT_SIMULATED_OPS):
+    if call and not not_simulated(call[1], NOT_SIMULATED_OPS) and not why_needless(call[1]):
         meant = near(without_isr(call[1]), OPS[section], MEANT_OPS)
         arguments = [it for it in re.split(r"[\s,]+", call[2]) if it and it[0] != "&" and it != "NULL"]
         end = did_you_mean(quoted(op_of_function(call[1], arguments) or meant and " ".join([meant, *arguments])))
@@ -91,6 +92,9 @@ def problem_of_word(words: List[Word], section: str, application: Application) -
         return Problem(start, end, message, OPS[section][of_variable[-1].split()[0]].rule)
     if section == "handler" and word in OPS["task"]:
         return Problem(start, end, op_of_tasks(word), all_ops("handler"))
+    needless = why_needless(word)
+    if needless:
+        return Problem(start, end, f'no op is called "{word}", and none is needed for it', needless)
     left_out_there = not_simulated(word, NOT_SIMULATED_OPS) if MEANT_OPS.get(word.lower()) is None else None
     if left_out_there:
         return Problem(start, end, f'no op is called "{word}": {left_out_there} aren\'t simulated', not_simulated_rule(left_out_there))
@@ -217,7 +221,9 @@ def no_such(context: Context, op: Op, word: str, kinds: Tuple[str, ...]) -> Tupl
             return f'"{word}" is the daemon (line {line}), and no op can {op.word} it', op.rule
         end, better = instead(context, op, other, names)
         return f'"{word}" is {one(other.section)} (line {line}), and {op.word} is for {plural}{end}', (better or op).rule
-    start, meant = f'no {wanted} is called "{word}"', near(word, names)
+    start, meant = f'no {wanted} is called "{word}"', near(word, names) or near(without_number(word), names)
+    if word == TICK and kinds == ("handler",):
+        return f"{start}, and the tick interrupt can't be armed or raised", op.rule
     if meant:
         return start + did_you_mean(quoted(meant)), op.rule
     if names:
@@ -236,7 +242,8 @@ def one(section: str) -> str:
 def instead(context: Context, op: Op, other: Entry, names: List[str]) -> Tuple[str, Optional[Op]]:
     """Which op is meant, or which ops speak of what has the name, or which names the op may have; and the op that is meant."""
     known = OPS[context.place.section]
-    ops = [it.word for it in known.values() if other.section in it.kinds]
+    # (a handler in the place of another name is a slip of the name: the ops about handlers are like no others)
+    ops = [it.word for it in known.values() if other.section in it.kinds and other.section != "handler"]
     kin = next((it for group in KIN if op.word in group for it in group if it in ops), None)
     if kin:
         return did_you_mean(f'the op "{kin}"'), known[kin]

@@ -80,6 +80,9 @@ ENDLESS = Key(
     "endless", "a boolean", "endless = true is for a task that serves forever: a run passes without its end; the default is false",
     False)
 THE_NAME = Key("name", "a name", f"{A_NAME}; each name of a file is used once")
+ARMED = Key(
+    "armed", "a boolean", "armed = false is for an interrupt that can't be injected until an op arms it; the default is true", False)
+MOST_APART = 1000000
 SECTIONS = {it.name: it for it in (
     Section("limits", False, 1, "[limits] says when a run ends at the latest",
             limit_of_ticks(),
@@ -95,7 +98,8 @@ SECTIONS = {it.name: it for it in (
     Section("variable", True, 32, "a file has at most 32 variables, which all tasks and handlers share", THE_NAME,
             number_key("initial", 0, MOST_OF_A_NUMBER, "the variable's value at reset", 0)),
     Section("handler", True, 16, "a file has at most 16 handlers", THE_NAME,
-            texts_key("ops", 16, "ops are what the handler does: an array of at most 16 texts", '["send rx 7"]')),
+            texts_key("ops", 16, "ops are what the handler does: an array of at most 16 texts", '["send rx 7"]'), ARMED,
+            number_key("apart", 0, MOST_APART, "the least number of elapsed ticks from one coming of the handler to its next injection", 0)),
     Section("task", True, 32, "a file has 1 to 32 tasks, each under its own [[task]]", THE_NAME,
             number_key("priority", 0, 31, "the base priority (a larger number is a higher priority)"),
             ENDLESS,
@@ -135,6 +139,9 @@ MEANT_KEYS = {
     "isr": "handler", "irq": "handler", "ticks": "tick", "tick": "ticks", "point": "points", "forever": "endless",
     "infinite": "endless", "never_ends": "endless",
     "configtimer_task_priority": "priority", "configtimer_queue_length": "length", "queue_length": "length",
+    "enabled": "armed", "enable": "armed", "active": "armed", "disarmed": "armed", "disabled": "armed", "masked": "armed",
+    "interval": "apart", "min_interval": "apart", "minimum_interval": "apart", "gap": "apart", "spacing": "apart", "inter_arrival": "apart",
+    "min_inter_arrival": "apart", "distance": "apart",
 }
 
 
@@ -286,6 +293,7 @@ M = Name("m", "a mutex", "mutex")
 G = Name("g", "an event group", "group")
 X = Name("x", "a variable", "variable")
 T = Name("t", "a task", "task")
+H = Name("h", "a handler", "handler")
 V = Value("V", "an item")
 W = Wait()
 B = Number("b", 1, 16777215, "a mask of bits")
@@ -354,6 +362,14 @@ def table_of(*ops: Op) -> Dict[str, Op]:
     return {op.word: op for op in ops}
 
 
+# About when interrupts come, in a task or a handler.
+ABOUT_HANDLERS = (
+    Op("arm", H, does="lets an interrupt come if it is injected"),
+    Op("disarm", H, does="keeps an interrupt from coming if it is injected"),
+    Op("raise", H, Number("n", 1, MOST_APART, "the number of ticks until then"),
+       does="has a device bring the interrupt n ticks from now, and no longer when it was due before"),
+    Op("cancel", H, does="takes a raise back"),
+)
 TASK_OPS = table_of(
     Op("work", Number("n", 1, 1000000, "the number of ticks"), does="computes for n ticks"),
     Op("delay", Number("n", what="the number of ticks"), does="sleeps for n ticks"),
@@ -410,6 +426,7 @@ TASK_OPS = table_of(
     Op("and", Operand(), does="returns the bits that are set in both the last answer and O"),
     Op("or", Operand(), does="returns the bits that are set in the last answer, in O, or in both"),
     Op("xor", Operand(), does="returns the bits that are set in either the last answer or O, but not in both"),
+    *ABOUT_HANDLERS,
 )
 HANDLER_OPS = table_of(
     Op("send", Q, V, does="puts an item last into a queue, if it has room"),
@@ -426,7 +443,7 @@ HANDLER_OPS = table_of(
     Op("expect", Condition(), does="unless C holds, ends the handler, and after this step the run with check"),
     TASK_OPS["if"], TASK_OPS["else"],
     Op("end", does="closes an if"),
-    TASK_OPS["load"], TASK_OPS["store"], *(TASK_OPS[it] for it in ARITHMETIC),
+    TASK_OPS["load"], TASK_OPS["store"], *(TASK_OPS[it] for it in ARITHMETIC), *ABOUT_HANDLERS,
 )
 # How deep loops are at most, and how deep blocks are, which are loops and ifs.
 DEEPEST_LOOP, DEEPEST = 4, 8
@@ -438,6 +455,9 @@ LOOPS, MEASURES, MASKS = ("repeat", "break"), ("stamp", "since"), ("enter_critic
 # Ops about the task's own notification, and those of them that wait for one.
 AWAITS = ("notify_take", "notify_wait")
 OWN = (*AWAITS, "notify_clear", "notify_value_clear")
+# Ops about when interrupts come.
+ARMS, DISARMS, RAISES, CANCELS = "arm", "disarm", "raise", "cancel"
+OF_HANDLERS = tuple(it.word for it in ABOUT_HANDLERS)
 
 # What FreeRTOS and others call the ops.
 MEANT_OPS = {
@@ -466,6 +486,16 @@ MEANT_OPS = {
     "xtasknotifywait": "notify_wait", "xtasknotifystateclear": "notify_clear", "ultasknotifyvalueclear": "notify_value_clear",
     "notify_give": "notify", "notification": "notify", "wait_notify": "notify_wait", "take_notify": "notify_take",
     "notify_state_clear": "notify_clear", "notify_clear_value": "notify_value_clear",
+    "nvic_enableirq": "arm", "nvic_disableirq": "disarm", "nvic_setpendingirq": "raise", "nvic_clearpendingirq": "cancel",
+    "hal_nvic_enableirq": "arm", "hal_nvic_disableirq": "disarm", "irq_set_enabled": "arm", "enable_irq": "arm", "disable_irq": "disarm",
+    "enable": "arm", "disable": "disarm", "unarm": "disarm", "trigger": "raise", "pend": "raise", "schedule": "raise", "unraise": "cancel",
+    "abort": "cancel", "portyield": "yield", "printf": "mark", "hal_delay": "work", "hal_gettick": "time", "xqueueisqueueempty": "peek",
+    "osmutexacquire": "lock", "osmutexrelease": "unlock", "ossemaphoreacquire": "take", "ossemaphorerelease": "give",
+    "osmessagequeueput": "send", "osmessagequeueget": "receive", "osmessagequeuegetcount": "waiting", "osmessagequeuegetspace": "spaces",
+    "oseventflagsset": "set", "oseventflagsclear": "clear", "oseventflagsget": "bits", "oseventflagswait": "wait",
+    "osthreadflagsset": "notify", "osthreadflagswait": "notify_wait", "osthreadflagsclear": "notify_value_clear",
+    "osdelay": "delay", "osdelayuntil": "delay_until", "osthreadyield": "yield", "osthreadsuspend": "suspend", "osthreadresume": "resume",
+    "oskernellock": "suspend_all", "oskernelunlock": "resume_all", "oskernelgettickcount": "time",
 }
 # What others write for an op whose next word is a variable, and the ops for it; {x} is the variable, {v} a word after it.
 MEANT_OF_VARIABLES = {
@@ -477,31 +507,6 @@ MEANT_OF_VARIABLES = {
 }
 # The operators of C that change a variable, and the ops for them.
 OPERATORS = {"+": "add", "-": "sub", "*": "mul", "/": "div", "%": "mod", "&": "and", "|": "or", "^": "xor"}
-# What isn't simulated, by the beginnings of the words for it, in small letters and without `_`; and of sections the same.
-NOT_SIMULATED_OPS = {
-    "notifications of another index than 0": (
-        "xtasknotifyindexed", "xtasknotifygiveindexed", "vtasknotifygiveindexed", "ultasknotifytakeindexed", "xtasknotifywaitindexed",
-        "xtasknotifystateclearindexed", "ultasknotifyvalueclearindexed"),
-    "notifications that return the value before": ("xtasknotifyandquery",),
-    "software timers": ("xtimer", "pvtimer", "timer", "starttimer", "stoptimer", "resettimer"),
-    "stream and message buffers": ("xstreambuffer", "streambuffer", "xmessagebuffer", "messagebuffer"),
-    "queue sets": ("xqueueaddtoset", "xqueueselectfromset", "xqueueremovefromset", "queueset"),
-    "recursive mutexes": ("xsemaphoretakerecursive", "xsemaphoregiverecursive", "lockrecursive", "unlockrecursive"),
-    "priorities that change": ("vtaskpriorityset", "setpriority", "priorityset"),
-    "tasks that are created or deleted at run time": ("xtaskcreate", "vtaskdelete", "createtask", "deletetask"),
-}
-NOT_SIMULATED_SECTIONS = {
-    "software timers": ("timer",),
-    "stream and message buffers": ("stream", "messagebuffer", "message_buffer"), "queue sets": ("queueset", "queue_set"),
-    "recursive mutexes": ("recursive",), "more than one core": ("core",),
-}
-# Of what is simulated and has no section, by the beginning of the word, what it is a part of.
-WITHOUT_SECTION = {"notif": "each task has a notification of its own, which needs no section: the ops notify, notify_take and notify_wait use it"}
-IN_ITS_PLACE = {
-    "notifications of another index than 0": "each task has one notification, and notify and notify_wait use it",
-    "notifications that return the value before": "the notified task gets the value from its notify_wait",
-    "software timers": "a [[handler]] at an [[interrupt]], or an endless task with delay_until, represents one",
-}
 # Ops that do the like to things of other kinds.
 KIN = (("receive", "take", "lock", "wait"), ("send", "give", "unlock", "set", "store", "notify"), ("waiting", "bits"),
        ("load", "receive", "bits", "take", "lock", "peek", "waiting", "spaces"))
@@ -539,16 +544,6 @@ MOST_PAIRS = 3
 # How many of them the schema takes, which is for this version alone.
 PAIRS = 3
 MOST_POINTS = 1000000
-
-
-def not_simulated(word: str, table: Dict[str, Tuple[str, ...]]) -> Optional[str]:
-    """What of FreeRTOS isn't simulated that a word or a section is about; None if it is about nothing of that kind."""
-    plain = word.lower().replace("_", "")
-    return next((what for what, starts in table.items() if plain.startswith(tuple(it.replace("_", "") for it in starts))), None)
-
-
-def not_simulated_rule(what: str) -> str:
-    return "; ".join(it for it in ("docs/KERNEL.md names what is left out", IN_ITS_PLACE.get(what)) if it)
 
 
 def op_of(section: str, text: str) -> Tuple[List[str], Any]:

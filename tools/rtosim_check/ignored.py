@@ -5,8 +5,8 @@ from typing import Callable, Iterator, List, Optional, Set, Tuple
 
 from .application import Entry
 from .findings import WARNING, Finding
-from .formats import (MEANT_KEYS, MEANT_SECTIONS, NOT_SIMULATED_SECTIONS, SECTIONS, Section, TOP_KEYS, WITHOUT_SECTION, not_simulated,
-                      not_simulated_rule)
+from .formats import MEANT_KEYS, MEANT_SECTIONS, SECTIONS, Section, TOP_KEYS
+from .left_out import NOT_SIMULATED_SECTIONS, WITHOUT_SECTION, not_simulated, not_simulated_rule
 from .nearness import did_you_mean, near
 from .nodes import Array, Member, Node, Table
 

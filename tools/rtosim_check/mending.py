@@ -7,7 +7,8 @@ from __future__ import annotations
 import json
 from typing import Any, Dict, List, Optional, Set, Tuple
 
-from .formats import DAEMON, Key, MEANT_OPS, NOT_SIMULATED_OPS, OBJECTS, OPS, SECTIONS, TICK, not_simulated, op_of
+from .formats import DAEMON, Key, MEANT_OPS, OBJECTS, OPS, SECTIONS, TICK, op_of
+from .left_out import NOT_SIMULATED_OPS, not_simulated, why_needless
 from .nearness import near
 from .nodes import Array, Moment, Table
 from .verdict import Place, Verdict
@@ -144,7 +145,7 @@ class Mending:
         ops = self.ops(place)
         words = ops[place.at].split() if isinstance(ops[place.at], str) else []
         meant: Any = words and near(words[0], OPS["task"], MEANT_OPS)
-        if not meant and not (words and not_simulated(words[0], NOT_SIMULATED_OPS)):
+        if not meant and not (words and (not_simulated(words[0], NOT_SIMULATED_OPS) or why_needless(words[0]))):
             self.broken.add((place.section, place.index))
         ops[place.at] = OF_BLOCKS.get(meant, HARMLESS[place.section])
 

@@ -8,7 +8,7 @@ from __future__ import annotations
 from typing import Dict, FrozenSet, Iterator, List, NamedTuple, Optional, Set, TYPE_CHECKING
 
 from .findings import WARNING, Finding
-from .formats import OF_VARIABLES
+from .formats import OF_HANDLERS, OF_VARIABLES
 
 if TYPE_CHECKING:
     from .reach import Script
@@ -17,7 +17,7 @@ HOLDS, RELEASES = "suspend_all", "resume_all"
 OPENS, CLOSES = "enter_critical", "exit_critical"
 # Ops that may be done in a critical section.
 LOOKS = {"repeat", "break", "if", "else", "end", "mark", "expect", "time", "stamp", "since", "waiting", "spaces", "bits", "clear",
-         "notify_clear", "notify_value_clear", OPENS, CLOSES, *OF_VARIABLES}
+         "notify_clear", "notify_value_clear", OPENS, CLOSES, *OF_VARIABLES, *OF_HANDLERS}
 # Ops that neither wait nor switch.
 STAYS = LOOKS | {"work", HOLDS, RELEASES}
 RULE = "a misuse ends the run: FreeRTOS asserts that it doesn't happen, or its manual forbids it"

@@ -51,8 +51,11 @@ def first_step(node: Any) -> Optional[int]:
     """The step of an entry's first injection, or None if it has none."""
     if not isinstance(node, Text):
         return None
-    found, pairs = range_of(node.value), pairs_of(node.value)
-    return found[1] if found else pairs[0][0] if pairs else None
+    found = range_of(node.value)
+    if found:
+        return found[1]
+    pairs = pairs_of(node.value)
+    return pairs[0][0] if pairs else None
 
 
 def past_the_end(entry: Any, steps: int, what: str, rule: str) -> Finding:

@@ -8,7 +8,7 @@ from rtosim_report.faults import counted
 
 from .application import Application, integer_of, pairs_of
 from .findings import WARNING, Finding
-from .formats import AWAITS, CALLED, COMMANDS, OBJECTS, OPS, OWN, SECTIONS, op_of
+from .formats import AWAITS, CALLED, COMMANDS, OBJECTS, OPS, OWN, RAISES, SECTIONS, op_of
 from .nodes import Text
 
 
@@ -58,6 +58,7 @@ def of_handlers(application: Application) -> Iterator[Finding]:
     called = {handler for it in nodes if isinstance(it, Text) for _, handler in pairs_of(it.value)}
     named = [it.table.get("handler") for it in application.entries["interrupt"]]
     called |= {it.value for it in named if isinstance(it, Text)}
+    called |= raised(application)
     idle = [it for it in application.entries["handler"] if it.name not in called]
     if idle and not nodes:
         names = ", ".join(f'"{it.name}"' for it in idle)
@@ -71,6 +72,13 @@ def of_handlers(application: Application) -> Iterator[Finding]:
     for it in idle:
         rule = f'a point "all {it.name}" injects it before each step; an [[interrupt]] runs it at a tick'
         yield Finding(WARNING, "Unused", it.table.span, f'no point and no interrupt runs the handler "{it.name}"', rule)
+
+
+def raised(application: Application) -> Set[str]:
+    """The names that ops raise. An op that isn't known may do so, and each of its words may be one."""
+    texts = [(section, node.value) for section in OPS for entry in application.entries[section] for _, node in entry.texts()]
+    spelled = [op_of(section, text) for section, text in texts]
+    return {it for words, op in spelled if op is None or op.word == RAISES for it in words[1:]}
 
 
 def of_interrupts(application: Application) -> Iterator[Finding]:

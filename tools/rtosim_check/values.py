@@ -9,14 +9,14 @@ from typing import Dict, FrozenSet, Iterator, List, Optional, Set, Tuple
 from . import misuses
 from .application import Application, Entry, integer_of
 from .findings import WARNING, Finding
-from .formats import ANSWER, ARITHMETIC, OPS, SECTIONS, WORDS_OF_CONDITIONS
+from .formats import ANSWER, ARITHMETIC, OF_HANDLERS, OPS, SECTIONS, WORDS_OF_CONDITIONS
 from .misuses import Held
 from .reach import Script, scripts_of
 
 NONE, NUMBER = "none", "a number"
 EITHER: FrozenSet[str] = frozenset((NONE, NUMBER))
 # Ops that have no answer, and those whose answer may be none.
-LEAVES = {"work", "mark", "expect", "if", "else", "repeat", "break", "end", "stamp", "enter_critical", "exit_critical"}
+LEAVES = {"work", "mark", "expect", "if", "else", "repeat", "break", "end", "stamp", "enter_critical", "exit_critical", *OF_HANDLERS}
 MAY_FIND_NOTHING = ("receive", "peek", "notify_wait")
 DIVIDES = ("div", "mod")
 INITIAL = SECTIONS["variable"].keys["initial"]

@@ -1,5 +1,5 @@
 """Arrays, structures and what pointers lead to: a script has nothing of it. It is passed on, what is written there is left out, and what is
-read isn't known; so it is refused where it decides something. A local whose address goes there isn't known either."""
+read isn't known; so it is refused if it decides something. A local whose address goes there isn't known either."""
 from typing import Optional, Union
 
 from . import trees
@@ -8,6 +8,7 @@ from .core import Core
 from .integers import INT, Integer
 from .paths import Path
 from .refusals import Lost
+from .trees import Node
 from .values import Address, Handle, Known, Reference, Value, constant, lost
 
 OPAQUE = ("an array", "a structure", "a union")
@@ -19,7 +20,7 @@ ONE_INDEX = "an array with one index, such as `table[row * COLUMNS + column]`; o
 A_STUB = "a stub of it, as `static TIM_TypeDef rtosim_TIM2;` and `#define TIM2 (&rtosim_TIM2)`; or " + A_CONSTANT
 
 
-def has_two_indexes(node: object) -> bool:
+def has_two_indexes(node: Node) -> bool:
     """Whether it is an element of an array's element."""
     return trees.kind(node) == "ArrayRef" and trees.kind(node.name) == "ArrayRef"
 
@@ -38,7 +39,7 @@ class Addresses(Core):
         type_ = self.types.get(key) if key is not None else self.unit.constants.type_of(declaration) if declaration is not None else None
         return Address(name) if type_ in OPAQUE else None
 
-    def address(self, node: object, path: Path) -> Known:
+    def address(self, node: Node, path: Path) -> Known:
         inner = node.expr
         name = inner.name if trees.kind(inner) == "ID" else None
         if name is not None and self.opaque(name) is None:
@@ -52,7 +53,7 @@ class Addresses(Core):
         return self.opaque(name) or Address(name) if name is not None else self.whole(inner, path)
 
     def is_variable(self, name: str) -> bool:
-        """Whether a global is an integer of which a script has a variable."""
+        """Whether a global is an integer that has a variable in the script."""
         return False
 
     def is_left_out(self, name: str) -> bool:
@@ -61,7 +62,7 @@ class Addresses(Core):
         is_integer = declaration is not None and isinstance(self.unit.constants.type_of(declaration), Integer)
         return name in self.unit.directives.ignored or not is_integer and declaration is not None
 
-    def whole(self, node: object, path: Path) -> Union[Address, Reference]:
+    def whole(self, node: Node, path: Path) -> Union[Address, Reference]:
         """Where a member, an element or what a pointer leads to is."""
         name = trees.kind(node)
         if name == "StructRef" and node.type == ".":
@@ -76,25 +77,25 @@ class Addresses(Core):
         found = self.opaque(node.name) if name == "ID" else self.evaluate(node, path) if name == "FuncCall" else None
         return found if isinstance(found, Address) else Address(SOMEWHERE)
 
-    def element(self, inner: Union[Address, Reference], index: Known, node: object, path: Path) -> Union[Address, Reference]:
+    def element(self, inner: Union[Address, Reference], index: Known, node: Node, path: Path) -> Union[Address, Reference]:
         """Where an element is of an array, or of what a pointer leads to."""
         if isinstance(inner, Reference) and not (isinstance(index, Value) and index.constant() == 0):
             raise self.refuse(node, "what is beside a local isn't known", "an array")
         return inner
 
-    def member(self, inner: Union[Address, Reference], node: object) -> Address:
+    def member(self, inner: Union[Address, Reference], node: Node) -> Address:
         if isinstance(inner, Reference):
             raise self.refuse(node, "a part of a local has no op", "a local of its own")
         return inner if inner.name in NOWHERE else Address(f"{inner.name}.{node.field.name}")
 
-    def led_to(self, value: Known, node: object, path: Path) -> Union[Address, Reference]:
+    def led_to(self, value: Known, node: Node, path: Path) -> Union[Address, Reference]:
         if isinstance(value, (Address, Reference)):
             return value
         if isinstance(value, Value) and value.among(path.state.answers).constant() == 0:
             raise self.refuse(node, "this pointer is NULL")
         return Address(REGISTER if isinstance(value, Value) and value.constant() is not None else SOMEWHERE)
 
-    def content(self, where: Union[Address, Reference], node: object, path: Path) -> Known:
+    def content(self, where: Union[Address, Reference], node: Node, path: Path) -> Known:
         """What is read there."""
         if isinstance(where, Reference):
             return self.read_local(where.local, node, path)
@@ -104,7 +105,7 @@ class Addresses(Core):
             return self.unknown("an array with two indexes isn't followed", ONE_INDEX)
         return self.handle_named(where.name) or self.unknown(f"{shown(where)} isn't known here", A_STUB if where.name == REGISTER else A_CONSTANT)
 
-    def is_of_union(self, node: object) -> bool:
+    def is_of_union(self, node: Node) -> bool:
         """Whether it is a part of a global union."""
         while trees.kind(node) in ("StructRef", "ArrayRef"):
             node = node.name
@@ -118,15 +119,15 @@ class Addresses(Core):
     def unknown(self, why: str, instead: str = A_CONSTANT, array: Optional[str] = None) -> Value:
         return lost(INT, Lost(why, instead=instead, array=array))
 
-    def of_StructRef(self, node: object, path: Path) -> Known:
+    def of_StructRef(self, node: Node, path: Path) -> Known:
         name = trees.dotted(node)
         found = self.handle_named(name) if name is not None else None
         return self.content(self.whole(node, path), node, path) if found is None else found
 
-    def of_ArrayRef(self, node: object, path: Path) -> Known:
+    def of_ArrayRef(self, node: Node, path: Path) -> Known:
         return self.content(self.whole(node, path), node, path)
 
-    def write_there(self, where: Union[Address, Reference], value: Known, node: object, path: Path) -> Known:
+    def write_there(self, where: Union[Address, Reference], value: Known, node: Node, path: Path) -> Known:
         """A write to what isn't followed is left out."""
         if isinstance(where, Reference):
             return self.write_local(where.local, value, node, path)
@@ -140,20 +141,20 @@ class Addresses(Core):
             self.escaped.add(value.local)
             raise Escaped()
 
-    def let_arguments_go(self, call: object, path: Path) -> None:
+    def let_arguments_go(self, call: Node, path: Path) -> None:
         """The locals whose addresses a call takes that is left out."""
         for argument in trees.arguments(call):
             self.let_addresses_go(argument, path)
 
-    def let_parameters_go(self, call: object, path: Path) -> None:
+    def let_parameters_go(self, call: Node, path: Path) -> None:
         """The locals whose addresses a function of the file takes that can't be followed."""
         self.let_arguments_go(call, path)
 
-    def changes_globals(self, call: object, path: Path) -> bool:
+    def changes_globals(self, call: Node, path: Path) -> bool:
         """Whether a function of the file may change variables of a script by what it is given."""
         return False
 
-    def let_addresses_go(self, node: object, path: Path) -> None:
+    def let_addresses_go(self, node: Node, path: Path) -> None:
         """The locals whose addresses are in an expression that isn't followed."""
         for it in trees.walk(node):
             key = self.frame.local(it.name) if trees.kind(it) == "ID" else None
@@ -163,7 +164,7 @@ class Addresses(Core):
             if key is not None and self.types.get(key) not in OPAQUE:
                 self.let_go(Reference(key))
 
-    def pointer_arithmetic(self, node: object, left: Known, right: Known, path: Path) -> Known:
+    def pointer_arithmetic(self, node: Node, left: Known, right: Known, path: Path) -> Known:
         """Of an address: with NULL it is compared, and what is beside it is as little known as itself."""
         one, other = (left, right) if isinstance(left, (Address, Reference)) else (right, left)
         if node.op in ("==", "!=") and isinstance(other, Value) and other.among(path.state.answers).constant() == 0:
@@ -173,8 +174,8 @@ class Addresses(Core):
         why = other.among(path.state.answers).lost() if isinstance(other, Value) else None
         return self.unknown("an address as a number isn't known") if why is None else lost(INT, why)
 
-    def size(self, node: object) -> Optional[Value]:
-        """The size of a name's type, where that is a number or an array of numbers."""
+    def size(self, node: Node) -> Optional[Value]:
+        """The size of a name's type, if that is a number or an array of numbers."""
         key = self.frame.local(node.name) if trees.kind(node) == "ID" else None
         declaration = self.declarations.get(key) if key is not None else self.unit.globals.get(getattr(node, "name", None))
         found = self.unit.constants.size_of(declaration) if trees.kind(node) == "ID" else self.unit.constants.size_of(node)

@@ -3,15 +3,18 @@ from typing import Dict, List, Optional, Tuple
 
 from . import trees
 from .answers import NUMBERS, NONE, Answers, answers, failing, condition_for, only
-from .calls import (CALLS, CREATORS, IN_SECTIONS, MASKS_OF_HANDLERS, NO_OP, SILENT, TASK_CREATORS, WITHOUT_OP, YIELDS_OF_HANDLERS, Answer, Argument, Call,
-                    Result, Who)
+from .calls import (CALLS, CREATORS, IN_SECTIONS, MASKS_OF_HANDLERS, NO_OP, OF_INTERRUPTS, SILENT, TASK_CREATORS, WITHOUT_OP, YIELDS_OF_HANDLERS, Answer,
+                    Argument, Call, Result, Who)
 from .constants import numeral
 from .core import Compared
 from .expressions import Expressions
 from .families import Family
+from .frames import both
 from .integers import INT, UNSIGNED, Integer
+from .interrupts import handlers_of
 from .paths import Path
 from .refusals import Lost, LostUse, Place, Refusal
+from .trees import MaybeNode, Node
 from .values import (LOST, NUMBER, Address, Handle, Known, Nothing, Piece, Reference, Stamp, Value, constant, converted, is_received, lost,
                      steady, the_answer)
 
@@ -32,7 +35,7 @@ LEAST_MASK, GREATEST_MASK = 1, (1 << 24) - 1
 class Api(Expressions):
     """Calls, and the ops that they make."""
 
-    def of_FuncCall(self, node: object, path: Path) -> Known:
+    def of_FuncCall(self, node: Node, path: Path) -> Known:
         name = trees.called(node)
         if name is None:
             raise self.refuse(node, "a call by a pointer to a function has no op", "a call of the function by its name")
@@ -49,7 +52,7 @@ class Api(Expressions):
             return self.taken(key, path, node) if key in path.state.locals else self.followed_or_left_out(node, path)
         return self.other_call(name, node, path)
 
-    def other_call(self, name: str, node: object, path: Path) -> Known:
+    def other_call(self, name: str, node: Node, path: Path) -> Known:
         if name == "configASSERT":
             self.assertion(trees.arguments(node)[0], path)
             return Nothing()
@@ -63,6 +66,8 @@ class Api(Expressions):
             self.evaluate_calls(node, path)
             self.note(node, f"{name}: no handler comes during another here")
             return constant(0)
+        if name in OF_INTERRUPTS:
+            return self.interrupt(name, node, path)
         if name in (*CREATORS, *TASK_CREATORS):
             return self.creation(name, node)
         if name == "xTaskGetCurrentTaskHandle" and not self.is_handler:
@@ -72,7 +77,7 @@ class Api(Expressions):
             raise self.refuse(node, f"{name}: {what}", instead)
         raise not_here(name, self.place(node))
 
-    def left_out(self, name: str, node: object, path: Path) -> Known:
+    def left_out(self, name: str, node: Node, path: Path) -> Known:
         """A call that has no effect on tasks. What its arguments call is called all the same. Locals whose addresses it takes aren't known."""
         self.evaluate_calls(node, path)
         if name not in SILENT:
@@ -81,20 +86,30 @@ class Api(Expressions):
         given = self.unit.directives.ignored.returns(name) if name in self.unit.directives.ignored else ""
         return self.given(name, given, node) if given else lost(INT, Lost(f"what {name} returns isn't known", instead=f"--ignore {name}=NUMBER"))
 
-    def given(self, name: str, text: str, node: object) -> Value:
+    def given(self, name: str, text: str, node: Node) -> Value:
         """What a function that is left out returns: a number, or the name of a constant."""
         found = self.unit.constants.numbers.get(text) or numeral(text)
         if found is None:
             raise self.refuse(node, f"`{text}`, which {name} is to return, is no number", f"--ignore {name}=NUMBER")
         return found
 
-    def evaluate_calls(self, node: object, path: Path) -> None:
+    def evaluate_calls(self, node: Node, path: Path) -> None:
         """Calls among the arguments of a call that has no op."""
         for it in trees.arguments(node):
             if trees.calls_in(it):
                 self.evaluate(it, path)
 
-    def creation(self, name: str, node: object) -> Known:
+    def interrupt(self, name: str, node: Node, path: Path) -> Known:
+        """An interrupt is enabled or disabled."""
+        found = handlers_of(self.unit, node)
+        if not found:
+            raise self.refuse(node, f"{name}: which handler of this file this is about isn't known",
+                              f"{name}(EXTI0_IRQn), with EXTI0_IRQHandler in this file; --ignore {name} leaves it out")
+        for it in found:
+            self.op(f"{OF_INTERRUPTS[name]} {it.name}", node, path)
+        return Nothing()
+
+    def creation(self, name: str, node: Node) -> Known:
         self.note(node, f"{name}: what it creates is there from reset on", name in TASK_CREATORS)
         made, task = self.unit.created_by.get(id(node), []), self.unit.task_of.get(id(node))
         if task is not None and name != "xTaskCreate":
@@ -103,7 +118,7 @@ class Api(Expressions):
 
     # -- calls of the table
 
-    def call(self, call: Call, node: object, path: Path) -> Known:
+    def call(self, call: Call, node: Node, path: Path) -> Known:
         if call.who is Who.HANDLER and not self.is_handler or call.who is Who.TASK and self.is_handler:
             whose = "a handler" if call.who is Who.HANDLER else "a task"
             raise self.refuse(node, f"{call.function} is for {whose}", of_the_other(call))
@@ -122,7 +137,7 @@ class Api(Expressions):
             # an op for an item takes the answer, so what depends on that is a constant before
             now = {argument: steady(it.among(fork.state.answers)) if isinstance(it, Value) else it for argument, it in values.items()}
             self.put(key, self.made(call, now, nodes, node, fork), node, fork)
-        self.meet(path, lambda end: self.split(path, parts, lambda fork: (of_part(fork), end(fork)), node))
+        self.meet(path, lambda end: self.split(path, parts, both(of_part, end), node))
         return self.taken(key, path, node)
 
     def parts_by_numbers(self, values: Dict[Argument, Known], path: Path) -> List[Answers]:
@@ -137,7 +152,7 @@ class Api(Expressions):
             return [answers(*it) for it in parts.values()] if len(parts) <= MOST_NUMBERS else []
         return []
 
-    def made(self, call: Call, values: Dict[Argument, Known], nodes: Dict[Argument, object], node: object, path: Path) -> Known:
+    def made(self, call: Call, values: Dict[Argument, Known], nodes: Dict[Argument, Node], node: Node, path: Path) -> Known:
         """The op of a call, and what the function returns."""
         texts = {it.word: self.text(it, values, nodes[it], path) for it in call.arguments}
         op = call.op
@@ -154,7 +169,7 @@ class Api(Expressions):
         if self.is_handler and op.split()[0] in ("set", "clear"):
             self.uses_daemon = True
 
-    def take_section(self, function: str, op: str, node: object, path: Path) -> None:
+    def take_section(self, function: str, op: str, node: Node, path: Path) -> None:
         """Counts critical sections, and warns of what is misuse in one, or outside of all."""
         word, sections = op.split()[0], path.state.sections
         if sections > 0 and word not in IN_SECTIONS:
@@ -163,7 +178,7 @@ class Api(Expressions):
             self.note(node, f"{function} without a critical section: the run ends here with a misuse", True)
         path.state = path.state.in_sections((word == "enter_critical") - (word == "exit_critical"))
 
-    def text(self, argument: Argument, values: Dict[Argument, Known], node: object, path: Path) -> str:
+    def text(self, argument: Argument, values: Dict[Argument, Known], node: Node, path: Path) -> str:
         """The argument as a word of the op; empty if it is none."""
         value = values[argument]
         if argument in KINDS:
@@ -186,19 +201,19 @@ class Api(Expressions):
             raise self.refuse(node, "no op clears what another task is notified of", "NULL, in the task itself")
         return ""
 
-    def action(self, action: int, value: Known, node: object, path: Path) -> str:
+    def action(self, action: int, value: Known, node: Node, path: Path) -> str:
         """What a notify does to the value. Only some actions take the number that C is given."""
         if action >= len(ACTIONS):
             raise self.refuse(node, f"{action} is no action of eNotifyAction")
         text = ACTIONS[action]
         return text.format(self.number_or_answer(value, Argument.VALUE, node, path)) if "{}" in text else text
 
-    def number_or_answer(self, value: Known, argument: Argument, node: object, path: Path) -> str:
+    def number_or_answer(self, value: Known, argument: Argument, node: Node, path: Path) -> str:
         """A number for an op that may also take the last answer."""
         return str(self.fixed(value, argument, node, path))
 
-    def fixed(self, value: Known, argument: Argument, node: object, path: Path) -> int:
-        """A number that is the same whatever was answered."""
+    def fixed(self, value: Known, argument: Argument, node: Node, path: Path) -> int:
+        """A number that is the same whatever the last answer is."""
         found = self.number(value, node, path)
         if found is None:
             raise LostUse(self.place(node), Lost(f"this must be {argument.value}, and it depends on an answer", instead="a constant"))
@@ -206,7 +221,7 @@ class Api(Expressions):
             raise self.refuse(node, f"bits of a group are 1 to {GREATEST_MASK}, and here {found}")
         return UNSIGNED.wrapped(found)
 
-    def handle(self, value: Known, argument: Argument, node: object) -> Handle:
+    def handle(self, value: Known, argument: Argument, node: Node) -> Handle:
         is_null = isinstance(value, Value) and value.constant() == 0
         if is_null and argument is Argument.TASK_OR_CALLER and not self.is_handler:
             return Handle("task", self.owner.name)
@@ -219,7 +234,7 @@ class Api(Expressions):
             raise self.refuse(node, f"this must be {argument.value}", "the handle that it was created with")
         return value
 
-    def item(self, value: Known, queue: Handle, node: object, path: Path) -> str:
+    def item(self, value: Known, queue: Handle, node: Node, path: Path) -> str:
         """The item at an address, cut to the size of the queue's items."""
         if isinstance(value, Address):
             raise self.refuse(node, "a structure or an array as an item has no op", "an integer that says what it is")
@@ -228,7 +243,7 @@ class Api(Expressions):
         self.compare_sizes(queue, value.local, "reads", node)
         return self.item_of(self.read_local(value.local, node, path), queue, node, path)
 
-    def compare_sizes(self, queue: Handle, local: str, what: str, node: object) -> int:
+    def compare_sizes(self, queue: Handle, local: str, what: str, node: Node) -> int:
         """How many bytes of a local aren't those of an item. Warns if FreeRTOS takes more than the local has."""
         type_, size = self.types.get(local), self.unit.object(queue.name).numbers.get("bytes", 0)
         own = -(-type_.bits // 8) if isinstance(type_, Integer) else 0
@@ -237,7 +252,7 @@ class Api(Expressions):
             self.note(node, f"an item of `{queue.name}` has {size} bytes and `{name}` has {own}: FreeRTOS {what} beyond it", True)
         return max(0, own - size) if size else 0
 
-    def item_of(self, value: Known, queue: Handle, node: object, path: Path) -> str:
+    def item_of(self, value: Known, queue: Handle, node: Node, path: Path) -> str:
         """A value as an item."""
         if isinstance(value, (Handle, Address, Reference)):
             raise self.refuse(node, f"a {'handle' if isinstance(value, Handle) else 'pointer'} as an item has no op", "a number that says which it is")
@@ -249,7 +264,7 @@ class Api(Expressions):
             self.unit.with_large_items.add(queue.name)
         return str(found)
 
-    def item_of_answer(self, value: Value, queue: Handle, node: object, path: Path) -> str:
+    def item_of_answer(self, value: Value, queue: Handle, node: Node, path: Path) -> str:
         raise LostUse(self.place(node), Lost("not in this version: an item that depends on an answer", instead="an item that is a constant"))
 
     def item_type(self, queue: Handle) -> Integer:
@@ -258,7 +273,7 @@ class Api(Expressions):
 
     # -- answers
 
-    def answered(self, call: Call, values: Dict[Argument, Known], texts: Dict[str, str], node: object, path: Path) -> Known:
+    def answered(self, call: Call, values: Dict[Argument, Known], texts: Dict[str, str], node: Node, path: Path) -> Known:
         """What is known after the op, and what the function returns."""
         if call.answer is Answer.UNCHANGED:
             return Nothing()
@@ -302,7 +317,7 @@ class Api(Expressions):
         fixed = {Answer.ONE: only(1), Answer.ZERO: only(0), Answer.NUMBER: NUMBERS, Answer.NOTIFIED: only(1)}
         return only(0, 1) if texts.get("action", "").startswith("keep") else fixed[call.answer]
 
-    def check_received(self, values: Dict[Argument, Known], local: str, node: object, path: Path) -> None:
+    def check_received(self, values: Dict[Argument, Known], local: str, node: Node, path: Path) -> None:
         """Warns if the upper bytes of a local aren't written and may be other than 0."""
         queue = values.get(Argument.QUEUE)
         left = self.compare_sizes(queue, local, "writes", node) if isinstance(queue, Handle) else 0
@@ -316,7 +331,7 @@ class Api(Expressions):
         """Whether others may suspend this task."""
         return self.unit.may_be_suspended(self.owner.name, {})
 
-    def without_item(self, call: Call, local: str, texts: Dict[str, str], node: object, path: Path) -> Piece:
+    def without_item(self, call: Call, local: str, texts: Dict[str, str], node: Node, path: Path) -> Piece:
         """What the local is if the call receives nothing. Of a queue it keeps what it had; a wait for a notification gives it the
         value as it is then, which no answer says."""
         type_, name = self.types[local], local.split("@")[0]
@@ -332,7 +347,7 @@ class Api(Expressions):
         number = before.constant() if isinstance(before, Value) else None
         return Piece(NONE, NONE, LOST if number is None else NUMBER, number or 0, why)
 
-    def keep_received(self, local: str, missing: Piece, node: object, path: Path) -> None:
+    def keep_received(self, local: str, missing: Piece, node: Node, path: Path) -> None:
         """What was received is in the local; `missing` is what it is if nothing was."""
         type_ = self.types[local]
         now = the_answer(type_, path.state.answers) if isinstance(type_, Integer) else Value(INT, ())
@@ -340,7 +355,7 @@ class Api(Expressions):
 
     # -- time
 
-    def measured_from(self, target: object, value: Optional[object], path: Path) -> Optional[Known]:
+    def measured_from(self, target: Node, value: MaybeNode, path: Path) -> Optional[Known]:
         """`x = xTaskGetTickCount()`: a stamp if the function measures from `x`, and nothing if `x` is its wake time."""
         call = trees.plain(value) if value is not None else None
         name = getattr(target, "name", None)
@@ -360,7 +375,7 @@ class Api(Expressions):
         path.state = path.state.stamped(number)
         return Stamp(number)
 
-    def is_reset(self, value: object, name: Optional[str], body: object, path: Path) -> bool:
+    def is_reset(self, value: Node, name: Optional[str], body: Node, path: Path) -> bool:
         """Whether a local is given 0 as a time that is measured from: the task's stamp at reset, if that is at tick 0."""
         found = self.unit.constants.value(value)
         if found is None or found.constant() != 0 or name is None or path.state.stamp or self.unit.directives.start or self.is_handler:
@@ -372,14 +387,14 @@ class Api(Expressions):
             self.only_measured[body, name] = bool(measures) and self.unit.mentions(body, name) == len(measures) + len(given)
         return self.only_measured[body, name]
 
-    def measured(self, node: object, path: Path) -> Value:
+    def measured(self, node: Node, path: Path) -> Value:
         self.op("since", node, path)
         path.state = path.state.answered(NUMBERS, f"the measuring in line {self.place(node).line}", self.place(node))
         return the_answer(UNSIGNED)
 
     # -- checks
 
-    def assertion(self, node: object, path: Path) -> None:
+    def assertion(self, node: Node, path: Path) -> None:
         """`configASSERT`: an `expect`, or one for each part that `&&` joins."""
         if trees.kind(node) == "BinaryOp" and node.op == "&&":
             self.assertion(node.left, path)
@@ -397,14 +412,14 @@ class Api(Expressions):
         else:
             self.expect_variable(test, node, path)
 
-    def expect_variable(self, test: Compared, node: object, path: Path) -> None:
+    def expect_variable(self, test: Compared, node: Node, path: Path) -> None:
         """Checks that the last answer is as a variable."""
         if test.holds or " " not in test.condition:
             self.op(f"expect {test.condition}" if test.holds else f"expect not {test.condition}", node, path)
         else:
             self.meet(path, lambda end: self.branch_on(test, path, end, lambda it: self.fail(node, it), node))
 
-    def expect(self, wanted: Answers, node: object, path: Path) -> None:
+    def expect(self, wanted: Answers, node: Node, path: Path) -> None:
         """Checks that the last answer is a wanted one."""
         among = path.state.answers
         text = condition_for(wanted, among)
@@ -416,8 +431,8 @@ class Api(Expressions):
         else:
             self.meet(path, lambda end: self.branch(path, wanted, end, lambda it: self.fail(node, it), node))
 
-    def fail(self, node: object, path: Path) -> None:
-        """A check that fails whatever was answered."""
+    def fail(self, node: Node, path: Path) -> None:
+        """A check that fails whatever the last answer is."""
         text = failing(path.state.answers)
         if text is None:
             raise self.refuse(node, "this check can't be said by the last answer", "the check right after the call that it is about")
@@ -442,14 +457,14 @@ def not_here(name: str, place: Place) -> Refusal:
                    f"its body, rtosim_work(n) for the ticks that it takes, or --ignore {name}; NAME=NUMBER says what it returns")
 
 
-def is_delay_of(node: object, name: Optional[str]) -> bool:
+def is_delay_of(node: Node, name: Optional[str]) -> bool:
     if trees.called(node) not in ("vTaskDelayUntil", "xTaskDelayUntil"):
         return False
     first = trees.arguments(node)[0]
     return trees.kind(first) == "UnaryOp" and trees.kind(first.expr) == "ID" and first.expr.name == name
 
 
-def is_measure_of(node: object, name: Optional[str]) -> bool:
+def is_measure_of(node: Node, name: Optional[str]) -> bool:
     if trees.kind(node) != "BinaryOp" or node.op != "-":
         return False
     right = trees.plain(node.right)

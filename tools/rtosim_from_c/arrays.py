@@ -6,6 +6,7 @@ from typing import TYPE_CHECKING, Dict, FrozenSet, Iterator, List, Optional, Set
 from . import trees
 from .integers import WRITTEN, Integer
 from .refusals import Lost
+from .trees import MaybeNode, Node
 
 if TYPE_CHECKING:
     from .unit import Unit
@@ -18,7 +19,7 @@ STEPS = ("++", "--", "p++", "p--")
 # A local by its function, a global, or a member of any structure.
 Name = Tuple[str, str]
 # What a function gives a name: an expression, or None if that can't be said.
-Gift = Tuple[str, Optional[object]]
+Gift = Tuple[str, MaybeNode]
 
 
 def shape(name: str) -> str:
@@ -29,7 +30,7 @@ def shape(name: str) -> str:
 class Arrays:
     """The arrays of a file that are followed, by their shapes; and the bounds of what may be an index of them."""
 
-    def __init__(self, unit: "Unit"):
+    def __init__(self, unit: "Unit") -> None:
         self.unit = unit
         self.followed: Set[str] = set()
         self.given: Optional[Dict[Name, List[Gift]]] = None
@@ -56,7 +57,7 @@ class Arrays:
         why, names = f"line {line} writes by a pointer that isn't known", self.led_to(member)
         return any([self.unit.fields.unfollow(it, Lost(f"`{it}` isn't followed: {why}", instead=ONE_ARRAY)) for it in names])
 
-    def is_named(self, node: object) -> bool:
+    def is_named(self, node: Node) -> bool:
         """Whether a node names an array that is followed."""
         if not self.followed or trees.kind(node) not in ("ID", "StructRef"):
             return False
@@ -66,11 +67,11 @@ class Arrays:
 
     # -- bounds
 
-    def bound(self, function: str, node: object) -> Optional[int]:
+    def bound(self, function: str, node: Node) -> Optional[int]:
         """The greatest number that an index may be, if it and all that gives its names values say so; None otherwise."""
         return self.greatest(function, node, frozenset())
 
-    def name_of(self, function: str, node: object) -> Optional[Name]:
+    def name_of(self, function: str, node: Node) -> Optional[Name]:
         if trees.kind(node) == "StructRef":
             return ".", node.field.name
         if trees.kind(node) != "ID":
@@ -86,7 +87,7 @@ class Arrays:
         found = [self.greatest(function, it, seen | {name}) if it is not None else None for function, it in given]
         return None if None in found else max((it for it in found if it is not None), default=0)
 
-    def greatest(self, function: str, node: object, seen: FrozenSet[Name]) -> Optional[int]:
+    def greatest(self, function: str, node: Node, seen: FrozenSet[Name]) -> Optional[int]:
         """The greatest number that an expression may be; None if that isn't known, or if it may be negative."""
         value = self.unit.constants.value(node)
         if value is not None:
@@ -104,7 +105,7 @@ class Arrays:
         name = self.name_of(function, node)
         return self.bound_of(name, seen) if name is not None else None
 
-    def is_positive(self, function: str, node: object, seen: FrozenSet[Name]) -> bool:
+    def is_positive(self, function: str, node: Node, seen: FrozenSet[Name]) -> bool:
         """Whether an expression is surely not negative: a sum of what isn't."""
         node = trees.plain(node)
         value = self.unit.constants.value(node)
@@ -128,7 +129,7 @@ class Arrays:
         types = [self.unit.constants.type_of(it) for it in nodes]
         return not types or any(not isinstance(it, Integer) or it.is_signed for it in types)
 
-    def members(self) -> Iterator[object]:
+    def members(self) -> Iterator[Node]:
         """The declarations of the members of all structures of the file."""
         constants = self.unit.constants
         for it in (*constants.structures.values(), *constants.typedefs.values(), *self.unit.globals.values()):
@@ -152,12 +153,12 @@ class Arrays:
                     found.setdefault(given[0], []).append((function, given[1]))
         return found
 
-    def is_zeros(self, node: object) -> bool:
+    def is_zeros(self, node: Node) -> bool:
         """Whether an initializer is `{ 0 }`."""
         given = node.exprs if trees.kind(node) == "InitList" else []
         return len(given) == 1 and self.unit.is_zero(given[0], given)
 
-    def given_by(self, function: str, node: object) -> Optional[Tuple[Name, Optional[object]]]:
+    def given_by(self, function: str, node: Node) -> Optional[Tuple[Name, MaybeNode]]:
         """What a node gives a name or a member; None if it gives nothing."""
         kind = trees.kind(node)
         if kind == "Decl":
@@ -171,6 +172,6 @@ class Arrays:
         return name, node.rvalue if node.op == "=" else less(node)
 
 
-def less(node: object) -> object:
+def less(node: Node) -> Node:
     """What `&=` and `%=` give, as an expression."""
     return sys.modules[type(node).__module__].BinaryOp(node.op[0], node.lvalue, node.rvalue, node.coord)

@@ -192,7 +192,7 @@ CREATORS: Dict[str, Tuple[str, ...]] = {
 TASK_CREATORS = ("xTaskCreate", "xTaskCreateStatic")
 SETUP = ("main", "app_main")
 
-# What writes for people, and what writes to memory, of which a script has none.
+# What writes for people, and what writes to memory, which a script doesn't have.
 SILENT = ("printf", "puts", "putchar")
 OF_MEMORY = ("memset", "memcpy", "memmove", "memcmp", "strlen", "strcmp", "strncmp", "strcpy", "strncpy", "strcat", "strchr", "strstr",
              "snprintf", "sprintf")
@@ -205,9 +205,11 @@ YIELDS_OF_HANDLERS = ("portYIELD_FROM_ISR", "portEND_SWITCHING_ISR")
 # What masks interrupts in a handler: no handler of a script interrupts another one.
 MASKS_OF_HANDLERS = ("taskENTER_CRITICAL_FROM_ISR", "taskEXIT_CRITICAL_FROM_ISR", "portSET_INTERRUPT_MASK_FROM_ISR",
                      "portCLEAR_INTERRUPT_MASK_FROM_ISR")
+# What enables and disables an interrupt, by its number: the op for it.
+OF_INTERRUPTS = {f"{start}NVIC_{word}IRQ": op for start in ("", "HAL_") for word, op in (("Enable", "arm"), ("Disable", "disarm"))}
 # Ops that may be used while a critical section is open. Any other is misuse.
 IN_SECTIONS = frozenset(("mark", "time", "stamp", "since", "waiting", "spaces", "bits", "clear", "enter_critical", "exit_critical", "notify_clear",
-                         "notify_value_clear"))
+                         "notify_value_clear", *OF_INTERRUPTS.values()))
 
 A_DELAY = "a task of its own that waits with vTaskDelay or vTaskDelayUntil"
 A_QUEUE = "a queue"
@@ -238,6 +240,9 @@ NO_OP: Dict[str, Tuple[str, str]] = {
     "xTaskGetTickCountFromISR": ("a handler can't ask for the time", "the time in the task that it wakes"),
 }
 
+# Those of them that have an effect of their own if `main` calls them. Others that it may call, such as those that create, have none.
+LASTING = ("xTimerStart", "xTimerReset", "xTimerChangePeriod", "xTimerPendFunctionCall", "vTaskPrioritySet")
+
 # All functions that the translator knows.
-KNOWN = frozenset((*CALLS, *CREATORS, *TASK_CREATORS, *YIELDS_OF_HANDLERS, *MASKS_OF_HANDLERS, *NO_OP, *WITHOUT_OP, "configASSERT",
+KNOWN = frozenset((*CALLS, *CREATORS, *TASK_CREATORS, *YIELDS_OF_HANDLERS, *MASKS_OF_HANDLERS, *OF_INTERRUPTS, *NO_OP, *WITHOUT_OP, "configASSERT",
                    ABORT, "vTaskDelete", "vTaskStartScheduler", "xTaskGetCurrentTaskHandle"))

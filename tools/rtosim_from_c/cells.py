@@ -8,6 +8,7 @@ from .constants import POINTER, text_numbers
 from .initializers import MOST_ELEMENTS, Initializers
 from .integers import Integer
 from .refusals import Place
+from .trees import MaybeNode, Node
 from .values import Address, Handle, Value, constant, converted
 
 if TYPE_CHECKING:
@@ -44,13 +45,13 @@ class Cells:
     """The cells of a file, each a global or a member of one, by its name with dots; those of locals have `@`. A name that ends with `[*]`
     is that of all elements of an array that have no cell of their own."""
 
-    def __init__(self, unit: "Unit"):
+    def __init__(self, unit: "Unit") -> None:
         self.unit = unit
         self.cells: Dict[str, Cell] = {}
-        self.declared: Dict[str, object] = {}
+        self.declared: Dict[str, Node] = {}
         self.given = Initializers(unit.constants)
 
-    def evaluate(self, node: object, called: Called) -> Optional[Content]:
+    def evaluate(self, node: Node, called: Called) -> Optional[Content]:
         """What an expression is; None if that isn't known."""
         raise NotImplementedError
 
@@ -68,9 +69,9 @@ class Cells:
         found = self.cells.get(self.cell_of(name))
         return found if isinstance(found, NotKnown) else None
 
-    def declaration(self, name: str) -> Optional[object]:
+    def declaration(self, name: str) -> MaybeNode:
         """The declaration of a global or a local, or of a member of one."""
-        found: Optional[object] = None
+        found: MaybeNode = None
         for at, it in enumerate(name.split(".")):
             member, *indices = it.split("[")
             found = self.unit.constants.members(found).get(member) if at else self.declared.get(member) or self.unit.globals.get(member)
@@ -96,7 +97,7 @@ class Cells:
             declaration = inner
         return self.begun(declaration, node)
 
-    def begun(self, declaration: object, node: Optional[object]) -> Optional[Content]:
+    def begun(self, declaration: Node, node: MaybeNode) -> Optional[Content]:
         """What a number, a handle or a pointer begins with; None for anything else."""
         type_ = self.unit.constants.type_of(declaration)
         is_pointer = type_ == "a pointer" or isinstance(type_, str) and type_.startswith("handle")
@@ -105,7 +106,7 @@ class Cells:
         if trees.kind(node) == "InitList":
             node = node.exprs[0]
         if node is None:
-            return constant(0, POINTER if is_pointer else type_)
+            return constant(0, type_ if isinstance(type_, Integer) else POINTER)
         found = self.evaluate(node, Called("", 0)) if is_pointer else self.unit.constants.value(node)
         return converted(found, type_) if isinstance(type_, Integer) and isinstance(found, Value) else found
 
@@ -123,12 +124,12 @@ class Cells:
         if not members and not elements:
             yield name
 
-    def elements(self, declaration: object) -> int:
+    def elements(self, declaration: Node) -> int:
         """How many elements of an array are followed."""
         length = self.unit.constants.length(declaration) or 0
         return length if length <= MOST_ELEMENTS else 0
 
-    def write(self, name: Optional[str], value: Optional[Content], node: object, called: Called) -> None:
+    def write(self, name: Optional[str], value: Optional[Content], node: Node, called: Called) -> None:
         if name is None:
             return
         if name.endswith("[?]"):
@@ -148,7 +149,7 @@ class Cells:
         else:
             self.cells[name] = NotKnown("it is given a value that depends on what isn't known, before the scheduler starts", place)
 
-    def copy(self, name: str, value: Optional[Content], node: object, called: Called) -> None:
+    def copy(self, name: str, value: Optional[Content], node: Node, called: Called) -> None:
         for it in self.leaves(name):
             source = f"{value.name}{it[len(name):]}" if isinstance(value, Address) else None
             element = trees.element(self.declaration(it))
@@ -156,8 +157,8 @@ class Cells:
             for rest in [f"[{at}]" for at in range(self.elements(self.declaration(it)) * is_array)] or [""]:
                 self.write(f"{it}{rest}", self.value(f"{source}{rest}") if source is not None else None, node, called)
 
-    def fill(self, name: str, given: List[object], node: object, called: Called) -> None:
-        """Gives a structure or an array the values of a list, and 0 where that has none."""
+    def fill(self, name: str, given: List[Node], node: Node, called: Called) -> None:
+        """Gives a structure or an array the values of a list, and 0 if that has none."""
         declaration = self.declaration(name)
         names = [it for it in self.unit.constants.members(declaration) if it]
         found = Initializers(self.unit.constants, lambda it: isinstance(self.evaluate(it, called), Address)).of_members(declaration, given)
@@ -168,10 +169,10 @@ class Cells:
             if is_many and (value is None or trees.kind(value) == "InitList"):
                 self.fill(inner, value.exprs if value is not None else [], node, called)
             else:
-                value = value.exprs[0] if trees.kind(value) == "InitList" else value
+                value = value.exprs[0] if value is not None and trees.kind(value) == "InitList" else value
                 self.write(inner, constant(0) if value is None else self.evaluate(value, called), node, called)
 
-    def clear(self, name: str, node: object, called: Called) -> None:
+    def clear(self, name: str, node: Node, called: Called) -> None:
         for it in self.leaves(name):
             type_ = self.unit.constants.type_of(self.declaration(it)) if self.declaration(it) is not None else ""
             if type_ != "an array":
@@ -187,7 +188,7 @@ class Cells:
             del self.cells[it]
         self.cells[f"{array}[*]"] = value
 
-    def give_away(self, name: str, function: Optional[str], node: object) -> None:
+    def give_away(self, name: str, function: Optional[str], node: Node) -> None:
         """A function that isn't followed may change the numbers that are there."""
         for it in self.leaves(name):
             declaration = self.declaration(it)
@@ -201,7 +202,7 @@ def given_away(function: Optional[str], place: Place) -> NotKnown:
     return NotKnown(f"{function or 'a function'} is given its address before the scheduler starts", place)
 
 
-def text_element(node: object, at: int) -> Optional[Value]:
+def text_element(node: Node, at: int) -> Optional[Value]:
     """A character of a text that an array is declared with; 0 after its end."""
     numbers = text_numbers(node)
     return constant(numbers[at] if at < len(numbers) else 0) if numbers is not None else None

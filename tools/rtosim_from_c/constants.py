@@ -6,7 +6,8 @@ from typing import Dict, List, Optional, Sequence, Tuple, Union
 from . import trees
 from .answers import ALL
 from .integers import INT, LONG_LONG, UNSIGNED, Integer, named
-from .values import Value, binary, constant, converted, unary
+from .trees import MaybeNode, Node
+from .values import Value, binary, constant, converted, known, unary
 
 # The types of handles, each with the kinds of objects that it may be of.
 HANDLES = {"QueueHandle_t": "queue", "SemaphoreHandle_t": "semaphore", "EventGroupHandle_t": "group", "TaskHandle_t": "task"}
@@ -25,12 +26,12 @@ class Constants:
     def __init__(self, has_short_enums: bool = False) -> None:
         self.has_short_enums = has_short_enums
         # the types of enumerations, by their nodes and by their tags
-        self.enums: Dict[object, Integer] = {}
-        self.typedefs: Dict[str, object] = {}
+        self.enums: Dict[Node, Integer] = {}
+        self.typedefs: Dict[str, Node] = {}
         self.numbers: Dict[str, Value] = {}
-        self.structures: Dict[str, object] = {}
+        self.structures: Dict[str, Node] = {}
 
-    def type_of(self, node: object) -> Type:
+    def type_of(self, node: Node) -> Type:
         """The type of a declaration, a parameter or a cast: integers, `handle ..`, or what else it is."""
         name = trees.kind(node)
         if name in ("Decl", "Typename", "TypeDecl", "Typedef"):
@@ -53,7 +54,7 @@ class Constants:
             return "a float"
         return named(names) or f"of type {' '.join(names)}"
 
-    def structure(self, node: object) -> Optional[object]:
+    def structure(self, node: Node) -> MaybeNode:
         """The structure of a type, with its members; None for any other type."""
         while trees.kind(node) in ("Decl", "Typename", "TypeDecl", "Typedef"):
             node = node.type
@@ -63,12 +64,12 @@ class Constants:
             return None
         return node if node.decls else self.structures.get(node.name)
 
-    def members(self, node: object) -> Dict[str, object]:
+    def members(self, node: Node) -> Dict[str, Node]:
         """The declarations of the members of a structure by their names; none for any other type."""
         whole = self.structure(node)
         return {it.name: it for it in (whole.decls if whole is not None else [])}
 
-    def instances(self, whole: object, declarations: Dict[str, object], before: str = "") -> List[str]:
+    def instances(self, whole: Node, declarations: Dict[str, Node], before: str = "") -> List[str]:
         """The names of all that is of this structure, among declarations and what is in them; twice for an array."""
         found: List[str] = []
         for name, it in declarations.items():
@@ -82,7 +83,7 @@ class Constants:
                 found += self.instances(whole, self.members(type_), f"{before}{name}.") * times
         return found
 
-    def value(self, node: object) -> Optional[Value]:
+    def value(self, node: Node) -> Optional[Value]:
         """The value of a constant expression; None if it is none, or none of integers."""
         name = trees.kind(node)
         if name == "Constant":
@@ -101,21 +102,21 @@ class Constants:
             return None if which is None else self.value(node.iftrue if which.constant() else node.iffalse)
         return None
 
-    def cast(self, node: object) -> Optional[Value]:
+    def cast(self, node: Node) -> Optional[Value]:
         type_, inner = self.type_of(node.to_type), self.value(node.expr)
         if inner is None or isinstance(type_, str) and type_ not in ("a pointer", "void") and not type_.startswith("handle"):
             return None
         return converted(inner, POINTER if isinstance(type_, str) else type_)
 
-    def of_one(self, node: object) -> Optional[Value]:
+    def of_one(self, node: Node) -> Optional[Value]:
         if node.op == "sizeof":
             size = self.size_of(node.expr)
             return constant(size, UNSIGNED) if size is not None else None
         inner = self.value(node.expr)
         return known(unary(node.op, inner, ALL)) if inner is not None and node.op in "+-~!" else None
 
-    def size_of(self, node: object) -> Optional[int]:
-        """The bytes of a declaration or a type, where that is a number or an array of numbers."""
+    def size_of(self, node: Node) -> Optional[int]:
+        """The bytes of a declaration or a type, if that is a number or an array of numbers."""
         type_ = self.type_of(node) if node is not None else None
         if isinstance(type_, Integer):
             return -(-type_.bits // 8)
@@ -127,9 +128,10 @@ class Constants:
         inner, count = self.size_of(array.type), self.value(array.dim) if array.dim is not None else None
         if array.dim is None:
             count = count_of(getattr(node, "init", None))
-        return inner * count.constant() if inner is not None and count is not None else None
+        length = count.constant() if count is not None else None
+        return inner * length if inner is not None and length is not None else None
 
-    def length(self, declaration: object) -> Optional[int]:
+    def length(self, declaration: Node) -> Optional[int]:
         """How many elements an array has that is declared so."""
         array = declaration
         while trees.kind(array) in ("Decl", "TypeDecl"):
@@ -139,12 +141,12 @@ class Constants:
         found = self.value(array.dim) if array.dim is not None else count_of(getattr(declaration, "init", None))
         return found.constant() if found is not None else None
 
-    def bytes_of(self, node: object) -> Optional[int]:
+    def bytes_of(self, node: Node) -> Optional[int]:
         """The bytes of a type on a machine with 32 bits; those of a structure too."""
         found = self.layout(node)
         return found[0] if found is not None else None
 
-    def layout(self, node: object) -> Optional[Tuple[int, int]]:
+    def layout(self, node: Node) -> Optional[Tuple[int, int]]:
         """The bytes of a type, and the number of bytes on which it begins."""
         type_, whole = self.type_of(node), self.structure(node)
         if isinstance(type_, Integer):
@@ -163,7 +165,7 @@ class Constants:
             size, begin = -(-size // step) * step + bytes_, max(begin, step)
         return -(-size // begin) * begin, begin
 
-    def take_enum(self, node: object) -> bool:
+    def take_enum(self, node: Node) -> bool:
         """The constants of an enumeration, which are `int`s if they fit, and its type; false if another one of its tag has another type."""
         next_one: Optional[int] = 0
         found: List[int] = []
@@ -188,17 +190,13 @@ def of_enum(numbers: Sequence[int], is_short: bool) -> Integer:
     return next(it for it in types if it.least <= least and greatest <= it.greatest)
 
 
-def count_of(initial: object) -> Optional[Value]:
+def count_of(initial: Node) -> Optional[Value]:
     """How many elements an array has that is declared with these."""
     if trees.kind(initial) == "InitList" and not any(trees.kind(it) == "NamedInitializer" for it in initial.exprs):
         return constant(len(initial.exprs))
     if trees.kind(initial) == "Constant" and initial.value.startswith('"'):
         return constant(len(ESCAPE.sub("x", initial.value[1:-1])) + 1)
     return None
-
-
-def known(value: Value) -> Optional[Value]:
-    return value if value.constant() is not None else None
 
 
 def binary_of(operator: str, left: Value, right: Value) -> Value:
@@ -216,7 +214,7 @@ def numeral(text: str) -> Optional[Value]:
         return None
 
 
-def literal(node: object) -> Optional[Value]:
+def literal(node: Node) -> Optional[Value]:
     """A number or a character as it is written."""
     return written(node.type, node.value)
 
@@ -245,7 +243,7 @@ def type_of_literal(number: int, is_unsigned: bool, is_long_long: bool, is_decim
     return types[-1]
 
 
-def text_numbers(node: object) -> Optional[List[int]]:
+def text_numbers(node: Node) -> Optional[List[int]]:
     """The characters of a text; None for anything else."""
     is_text = trees.kind(node) == "Constant" and node.value.startswith('"')
     return [character(it) for it in CHARACTER.findall(node.value[1:-1])] if is_text else None

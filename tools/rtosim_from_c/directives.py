@@ -13,7 +13,7 @@ INSTEAD = "one of: " + "; ".join(f"/* rtosim: {it} */" for it in FORMS)
 
 
 class Ignored:
-    """Names of functions and variables that have no effect on tasks, as patterns; and what such a function returns, where that is given."""
+    """Names of functions and variables that have no effect on tasks, as patterns; and what such a function returns, if that is given."""
 
     def __init__(self, texts: Iterable[str] = ()) -> None:
         self.patterns: Dict[str, str] = {}

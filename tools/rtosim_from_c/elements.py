@@ -16,6 +16,7 @@ from .pointees import OF_ITS_TYPE, Pointees
 from .refusals import Lost, LostUse
 from .shared import ANY, is_shared
 from .structures import STRUCTURE
+from .trees import MaybeNode, Node
 from .unit import Handler, Task, Unit
 from .values import Address, Known, Reference, Stored, Value, binary, constant, converted, lost, the_answer, truth
 
@@ -30,12 +31,12 @@ Part = Tuple[Answers, Optional[int]]
 class Elements(Pointees):
     """Arrays of integers and of structures."""
 
-    def __init__(self, unit: Unit, target: Target, owner: Union[Task, Handler]):
+    def __init__(self, unit: Unit, target: Target, owner: Union[Task, Handler]) -> None:
         super().__init__(unit, target, owner)
         # Arrays that are locals, or members of locals, and are followed.
         self.local_arrays: Set[str] = set()
         # Indices that are computed once for a read and a write.
-        self.held: Dict[object, str] = {}
+        self.held: Dict[Node, str] = {}
         # Arrays in which an index that isn't constant was followed.
         self.arrays_named: List[str] = []
         # What an index is at most, by its key, if that is known.
@@ -51,7 +52,7 @@ class Elements(Pointees):
             return f"{shape(where.name)}@{where.key}"
         return shape(where.name) if trees.root(where.name) in self.unit.globals else None
 
-    def declared_array(self, where: Address) -> Optional[object]:
+    def declared_array(self, where: Address) -> MaybeNode:
         """The declaration of an array of integers or structures; None for anything else."""
         key = (where.array or "").partition("@")[2]
         declaration = self.declarations.get(key) if key and where.key is None else self.declared_at(where)
@@ -107,7 +108,7 @@ class Elements(Pointees):
 
     # -- where an element is
 
-    def led_to(self, value: Known, node: object, path: Path) -> Union[Address, Reference]:
+    def led_to(self, value: Known, node: Node, path: Path) -> Union[Address, Reference]:
         found = super().led_to(value, node, path)
         if isinstance(found, Address) and found.name in NOWHERE and isinstance(value, Value):
             why = value.lost()
@@ -123,7 +124,7 @@ class Elements(Pointees):
             self.forget_array(found, node, "is led to by a pointer of another type", OF_ITS_TYPE)
         return found if trees.kind(node) == "ArrayRef" else replace(found, name=f"{found.name}[0]")
 
-    def forget_array(self, where: Address, node: object, what: str, instead: str) -> None:
+    def forget_array(self, where: Address, node: Node, what: str, instead: str) -> None:
         """An array isn't followed any more."""
         if not is_shared(where):
             self.let_go(where)
@@ -135,12 +136,12 @@ class Elements(Pointees):
         is_part = isinstance(value, Address) and value.key is not None and not is_shared(value) and "[" in value.name
         super().let_go(replace(value, name=value.name.partition("[")[0]) if is_part else value)
 
-    def let_addresses_go(self, node: object, path: Path) -> None:
+    def let_addresses_go(self, node: Node, path: Path) -> None:
         for it in self.arrays_in(node):
             self.let_go(it)
         super().let_addresses_go(node, path)
 
-    def arrays_in(self, node: object) -> Iterator[Address]:
+    def arrays_in(self, node: Node) -> Iterator[Address]:
         """The local arrays whose addresses an expression has. What is read from one is no address."""
         kind, name = trees.kind(node), trees.dotted(node)
         key = self.frame.local(trees.root(name)) if name is not None else None
@@ -158,7 +159,7 @@ class Elements(Pointees):
             for it in trees.children(node):
                 yield from self.arrays_in(it)
 
-    def lose_behind(self, where: Union[Address, Reference], node: object) -> None:
+    def lose_behind(self, where: Union[Address, Reference], node: Node) -> None:
         target = getattr(node, "lvalue", None) or getattr(node, "expr", None)
         if isinstance(where, Address) and where.name == SOMEWHERE and trees.kind(target) in ("ArrayRef", "UnaryOp"):
             array = target.name if trees.kind(target) == "ArrayRef" else None
@@ -169,11 +170,11 @@ class Elements(Pointees):
                 raise Escaped()
         super().lose_behind(where, node)
 
-    def member(self, inner: Union[Address, Reference], node: object) -> Address:
+    def member(self, inner: Union[Address, Reference], node: Node) -> Address:
         found = super().member(inner, node)
         return found if isinstance(inner, Reference) else replace(found, index=inner.index, array=inner.array)
 
-    def element(self, inner: Union[Address, Reference], index: Known, node: object, path: Path) -> Union[Address, Reference]:
+    def element(self, inner: Union[Address, Reference], index: Known, node: Node, path: Path) -> Union[Address, Reference]:
         number = index.among(path.state.answers).constant() if isinstance(index, Value) else None
         beside = self.beside(inner, number, node)
         if beside is not None:
@@ -197,8 +198,8 @@ class Elements(Pointees):
         self.arrays_named.append(inner.name)
         return replace(inner, name=f"{inner.name}{ANY}", index=key)
 
-    def beside(self, inner: Union[Address, Reference], number: Optional[int], node: object, is_moved: bool = False) -> Optional[Address]:
-        """The element beside another one, of which a pointer has the address; None for anything else. A pointer that is moved may lead
+    def beside(self, inner: Union[Address, Reference], number: Optional[int], node: Node, is_moved: bool = False) -> Optional[Address]:
+        """The element beside another one whose address a pointer has; None for anything else. A pointer that is moved may lead
         to the end of the array."""
         array = replace(inner, name=inner.name.rpartition("[")[0]) if isinstance(inner, Address) and inner.name.endswith("]") else None
         if array is None or inner.index is not None or not self.is_followed_array(array) or self.declared_array(inner) is not None:
@@ -208,14 +209,14 @@ class Elements(Pointees):
             self.forget_array(array, node, *MOVED)
         return replace(array, name=f"{array.name}[{at}]")
 
-    def check_end(self, where: Address, node: object) -> None:
+    def check_end(self, where: Address, node: Node) -> None:
         """Refuses what is read or written at the end of an array."""
         array = replace(where, name=where.name.rpartition("[")[0]) if where.name.endswith("]") else None
         at = int(where.name.rpartition("[")[2][:-1]) if array is not None and self.is_followed_array(array) else -1
         if array is not None and at >= 0 and at == self.length_of(array):
             raise self.refuse(node, f"`{array.name}` has {at} elements, and this is beyond them", f"an index from 0 to {at - 1}")
 
-    def pointer_arithmetic(self, node: object, left: Known, right: Known, path: Path) -> Known:
+    def pointer_arithmetic(self, node: Node, left: Known, right: Known, path: Path) -> Known:
         one, other = (left, right) if isinstance(left, Address) else (right, left)
         if node.op not in ("+", "-") or not isinstance(one, Address) or is_address(other):
             return super().pointer_arithmetic(node, left, right, path)
@@ -227,7 +228,7 @@ class Elements(Pointees):
             return replace(one, name=f"{one.name}[{number}]")
         return self.beside(one, number, node, True) or super().pointer_arithmetic(node, left, right, path)
 
-    def address(self, node: object, path: Path) -> Known:
+    def address(self, node: Node, path: Path) -> Known:
         found = super().address(node, path)
         if not isinstance(found, Address) or found.index is None:
             return found
@@ -238,10 +239,10 @@ class Elements(Pointees):
 
     # -- what is there
 
-    def of_constants(self, array: Optional[Known], node: object, path: Path) -> Optional[Value]:
+    def of_constants(self, array: Optional[Known], node: Node, path: Path) -> Optional[Value]:
         return None if self.is_followed_array(array) else super().of_constants(array, node, path)
 
-    def content(self, where: Union[Address, Reference], node: object, path: Path) -> Known:
+    def content(self, where: Union[Address, Reference], node: Node, path: Path) -> Known:
         if self.is_followed_array(where):
             return where
         is_local = isinstance(where, Address) and where.key in self.declarations and where.index is None
@@ -267,11 +268,11 @@ class Elements(Pointees):
         self.by_index(where, node, path, read)
         return constant(0) if path.is_over else self.taken(key, path, node)
 
-    def declared_element(self, where: Address) -> Optional[object]:
+    def declared_element(self, where: Address) -> MaybeNode:
         """The declaration of what is there for each index."""
         return self.declared_at(replace(where, name=where.name.replace(ANY, "[0]"), index=None))
 
-    def whole_element(self, where: Address, declaration: object, node: object, path: Path) -> Address:
+    def whole_element(self, where: Address, declaration: Node, node: Node, path: Path) -> Address:
         """A structure that an index means, as a local of its own."""
         found = Address("element", f"element@{self.spot(node)}")
         self.declarations[found.key], self.types[found.key] = declaration, STRUCTURE
@@ -281,7 +282,7 @@ class Elements(Pointees):
         self.by_index(where, node, path, read)
         return found
 
-    def write_part(self, target: object, value: Known, node: object, path: Path) -> Known:
+    def write_part(self, target: Node, value: Known, node: Node, path: Path) -> Known:
         if trees.find(target, lambda it: trees.kind(it) == "ArrayRef") is None:
             return super().write_part(target, value, node, path)
         key, after = f"written@{self.spot(node)}", f"assigned@{self.spot(node)}"
@@ -310,7 +311,7 @@ class Elements(Pointees):
         why = found.among(path.state.answers).lost() if isinstance(found, Value) else None
         return why if why is not None and why.local is None else None
 
-    def check_known(self, where: Address, value: Known, node: object, path: Path) -> None:
+    def check_known(self, where: Address, value: Known, node: Node, path: Path) -> None:
         """An array isn't followed any more if one of its elements is given what isn't known."""
         why = value.among(path.state.answers).lost() if isinstance(value, Value) else None
         is_number = isinstance(self.unit.constants.type_of(self.declared_element(where)), Integer)
@@ -322,7 +323,7 @@ class Elements(Pointees):
         if self.unit.fields.unfollow(name, Lost(reason, instead=why.instead, array=why.array)):
             raise Escaped()
 
-    def by_index(self, where: Address, node: object, path: Path, go: Callable[[Path, Address], None]) -> None:
+    def by_index(self, where: Address, node: Node, path: Path, go: Callable[[Path, Address], None]) -> None:
         """Goes on for each element that an index may mean, and where these ways meet. Beyond the array a check fails."""
         if not self.uses_memory:
             # to let ways go on apart for each element would be too many
@@ -349,7 +350,7 @@ class Elements(Pointees):
         """The array of an element that an index means."""
         return replace(where, name=where.name.partition(ANY)[0], index=None)
 
-    def index_of(self, where: Address, node: object, path: Path) -> Value:
+    def index_of(self, where: Address, node: Node, path: Path) -> Value:
         """An index, which was computed where its element was named."""
         key = where.index or ""
         found = path.state.locals[key]
@@ -367,7 +368,7 @@ class Elements(Pointees):
     # -- an index that is computed once
 
     @contextlib.contextmanager
-    def holding(self, target: object, path: Path) -> Iterator[None]:
+    def holding(self, target: Node, path: Path) -> Iterator[None]:
         """Computes the indices of what is read and then written, as `count[at]++` has it, once."""
         has_followed = self.has_followed()
         found = [it for it in trees.walk(target) if trees.kind(it) == "ArrayRef" and self.unit.constants.value(it.subscript) is None]
@@ -386,22 +387,22 @@ class Elements(Pointees):
             for it in found:
                 path.state = path.state.without(f"{HELD}{self.spot(it)}")
 
-    def operand(self, node: object, path: Path) -> Known:
+    def operand(self, node: Node, path: Path) -> Known:
         key = next((key for it, key in self.held.items() if it.subscript is node), None)
         return super().operand(node, path) if key is None else path.state.locals[key]
 
-    def of_Assignment(self, node: object, path: Path) -> Known:
+    def of_Assignment(self, node: Node, path: Path) -> Known:
         if node.op == "=":
             return super().of_Assignment(node, path)
         with self.holding(node.lvalue, path):
             return super().of_Assignment(node, path)
 
-    def step(self, node: object, path: Path) -> Known:
+    def step(self, node: Node, path: Path) -> Known:
         with self.holding(node.expr, path):
             return super().step(node, path)
 
 
-def changes(node: object) -> bool:
+def changes(node: Node) -> bool:
     """Whether an expression calls something, or gives something a new value."""
     return trees.kind(node) in ("FuncCall", "Assignment") or trees.kind(node) == "UnaryOp" and node.op in STEPS
 

@@ -11,6 +11,7 @@ from .frames import Frame, Jumps
 from .integers import BOOL, INT, WRITTEN, Integer
 from .paths import Path
 from .refusals import Lost, LostUse, Refusal
+from .trees import MaybeNode, Node
 from .values import (GREATEST, LOST, Address, Handle, Known, Nothing, Piece, Stamp, Text, Value, binary, constant, converted, lost, unary)
 
 IN_PLACE = {
@@ -25,7 +26,7 @@ SOME_SIZE = Value(POINTER, (Piece(NONE, GREATEST, LOST, 0, Lost("the size of thi
 class Expressions(Addresses):
     """What an expression is, and the ops that it takes."""
 
-    def evaluate(self, node: object, path: Path) -> Known:
+    def evaluate(self, node: Node, path: Path) -> Known:
         name = trees.kind(node)
         if name in IN_PLACE:
             raise self.refuse(node, f"{IN_PLACE[name][0]} has no op", IN_PLACE[name][1])
@@ -34,7 +35,7 @@ class Expressions(Addresses):
             raise self.refuse(node, f"no expression of this kind ({name}) is read")
         return method(node, path)
 
-    def of_Constant(self, node: object, path: Path) -> Known:
+    def of_Constant(self, node: Node, path: Path) -> Known:
         if node.value.startswith('"'):
             return Text()
         found = literal(node)
@@ -42,7 +43,7 @@ class Expressions(Addresses):
             raise self.refuse(node, "floats have no op", "integers")
         return found
 
-    def of_ID(self, node: object, path: Path) -> Known:
+    def of_ID(self, node: Node, path: Path) -> Known:
         key = self.frame.local(node.name)
         opaque = self.opaque(node.name)
         if opaque is not None:
@@ -60,7 +61,7 @@ class Expressions(Addresses):
             raise self.refuse(node, "a function as a value has no op", "a call of it")
         raise self.refuse(node, f"`{node.name}` isn't declared in this file", "its declaration, or `#ifndef RTOSIM` around this")
 
-    def of_Cast(self, node: object, path: Path) -> Known:
+    def of_Cast(self, node: Node, path: Path) -> Known:
         type_ = self.unit.constants.type_of(node.to_type)
         value = self.evaluate(node.expr, path)
         if type_ == "void":
@@ -73,13 +74,13 @@ class Expressions(Addresses):
             raise self.refuse(node, f"a cast to {type_} has no op", "integers")
         return self.fitted(value, type_, node, path)
 
-    def of_ExprList(self, node: object, path: Path) -> Known:
+    def of_ExprList(self, node: Node, path: Path) -> Known:
         value: Known = Nothing()
         for it in node.exprs:
             value = self.evaluate(it, path)
         return value
 
-    def of_UnaryOp(self, node: object, path: Path) -> Known:
+    def of_UnaryOp(self, node: Node, path: Path) -> Known:
         if node.op in ("++", "--", "p++", "p--"):
             return self.step(node, path)
         if node.op == "&":
@@ -95,14 +96,14 @@ class Expressions(Addresses):
             return self.unknown("an address as a number isn't known")
         return self.unary(node, self.integer(value, node), path)
 
-    def unary(self, node: object, value: Value, path: Path) -> Value:
+    def unary(self, node: Node, value: Value, path: Path) -> Value:
         return unary(node.op, value, path.state.answers)
 
-    def of_TernaryOp(self, node: object, path: Path) -> Known:
+    def of_TernaryOp(self, node: Node, path: Path) -> Known:
         key = f"?@{self.spot(node)}"
         ways = (node.iftrue, node.iffalse)
 
-        def take(which: object) -> Callable[[Path], None]:
+        def take(which: Node) -> Callable[[Path], None]:
             def go(fork: Path) -> None:
                 self.put(key, self.evaluate(which, fork), which, fork)
             return go
@@ -113,11 +114,11 @@ class Expressions(Addresses):
         self.meet(path, part)
         return self.taken(key, path, node)
 
-    def evaluate_all(self, nodes: Sequence[object], path: Path) -> List[Known]:
-        """The values of several expressions; a later one may take the answer of which an earlier one is made."""
+    def evaluate_all(self, nodes: Sequence[Node], path: Path) -> List[Known]:
+        """The values of several expressions; a later one may overwrite the answer from which an earlier one is made."""
         return [self.taken(key, path) for key in self.keep_all(nodes, path)]
 
-    def keep_all(self, nodes: Sequence[object], path: Path) -> List[str]:
+    def keep_all(self, nodes: Sequence[Node], path: Path) -> List[str]:
         """Evaluates several expressions, and returns the keys under which they are kept."""
         # (a sum has the place of its first operand, but another size)
         keys = [f"operand {at}@{self.spot(it)} {len(self.unit.below(it))}" for at, it in enumerate(nodes)]
@@ -125,16 +126,16 @@ class Expressions(Addresses):
             self.put(key, self.operand(it, path), it, path)
         return keys
 
-    def operand(self, node: object, path: Path) -> Known:
+    def operand(self, node: Node, path: Path) -> Known:
         return self.evaluate(node, path)
 
-    def fitted(self, value: Value, type_: Integer, node: object, path: Path) -> Value:
+    def fitted(self, value: Value, type_: Integer, node: Node, path: Path) -> Value:
         """The value as its type keeps it."""
         return converted(value, type_)
 
     # -- operators
 
-    def of_BinaryOp(self, node: object, path: Path) -> Known:
+    def of_BinaryOp(self, node: Node, path: Path) -> Known:
         if node.op in ("&&", "||"):
             return self.logical(node, path)
         since = self.since(node, path)
@@ -147,10 +148,10 @@ class Expressions(Addresses):
             return self.pointer_arithmetic(node, left, right, path)
         return self.arithmetic(node, self.integer(left, node.left), self.integer(right, node.right), path)
 
-    def arithmetic(self, node: object, left: Value, right: Value, path: Path) -> Value:
+    def arithmetic(self, node: Node, left: Value, right: Value, path: Path) -> Value:
         return binary(node.op, left, right, path.state.answers)
 
-    def compared_handles(self, node: object, left: Known, right: Known, path: Path) -> Value:
+    def compared_handles(self, node: Node, left: Known, right: Known, path: Path) -> Value:
         if node.op not in ("==", "!="):
             raise self.refuse(node, "this of a handle has no op", "a comparison with NULL or with another handle")
         if isinstance(left, Handle) and isinstance(right, Handle):
@@ -160,8 +161,8 @@ class Expressions(Addresses):
             is_same = self.number(other, node, path) != 0
         return constant(int(is_same == (node.op == "==")))
 
-    def logical(self, node: object, path: Path) -> Value:
-        """`&&` and `||` as a number: the right one is asked only where the left one doesn't say it all."""
+    def logical(self, node: Node, path: Path) -> Value:
+        """`&&` and `||` as a number: the right one is asked only if the left one doesn't decide."""
         key, is_and = f"{node.op}@{self.spot(node)}", node.op == "&&"
         wanted = self.truth(self.evaluate(node.left, path), node.left, path)
 
@@ -178,8 +179,8 @@ class Expressions(Addresses):
         self.meet(path, part)
         return self.integer(self.taken(key, path, node), node)
 
-    def since(self, node: object, path: Path) -> Optional[Value]:
-        """`xTaskGetTickCount() - x`, where `x` is the time of the last stamp."""
+    def since(self, node: Node, path: Path) -> Optional[Value]:
+        """`xTaskGetTickCount() - x`, if `x` is the time of the last stamp."""
         if node.op != "-" or trees.called(trees.plain(node.left)) != "xTaskGetTickCount":
             return None
         right = self.evaluate(node.right, path) if trees.kind(trees.plain(node.right)) == "ID" else None
@@ -192,7 +193,7 @@ class Expressions(Addresses):
 
     # -- locals
 
-    def read_local(self, key: str, node: object, path: Path) -> Known:
+    def read_local(self, key: str, node: Node, path: Path) -> Known:
         found = path.state.locals.get(key)
         if key in self.escaped:
             return self.unknown(f"`{key.split('@')[0]}` may be changed through its address")
@@ -200,14 +201,14 @@ class Expressions(Addresses):
             raise self.refuse(node, "this local has no value here")
         return found
 
-    def declare(self, name: str, type_: object, node: object) -> str:
+    def declare(self, name: str, type_: Node, node: Node) -> str:
         """A new local of the innermost block."""
         key = f"{name}@{self.spot(node)}"
         self.frame.scopes[-1][name] = key
         self.types[key], self.declarations[key] = type_, node
         return key
 
-    def write_local(self, key: str, value: Known, node: object, path: Path) -> Known:
+    def write_local(self, key: str, value: Known, node: Node, path: Path) -> Known:
         type_ = self.types[key]
         if type_ in OPAQUE:
             self.note(node, f"`{key.split('@')[0]}` isn't followed: this write is left out")
@@ -226,7 +227,7 @@ class Expressions(Addresses):
         """What an assignment is, after it."""
         return value
 
-    def of_Assignment(self, node: object, path: Path) -> Known:
+    def of_Assignment(self, node: Node, path: Path) -> Known:
         if node.op not in WRITTEN:
             raise self.refuse(node, f"`{node.op}` isn't read")
         if self.is_ignored(node.lvalue):
@@ -244,7 +245,7 @@ class Expressions(Addresses):
                 value = self.arithmetic(written, self.integer(left, node), self.integer(right, node), path)
         return self.write(node.lvalue, value, node, path)
 
-    def write(self, target: object, value: Known, node: object, path: Path) -> Known:
+    def write(self, target: Node, value: Known, node: Node, path: Path) -> Known:
         """Gives what is named a new value."""
         name = trees.dotted(target)
         key = self.frame.local(name) if name is not None else None
@@ -259,11 +260,11 @@ class Expressions(Addresses):
             return self.write_there(self.opaque(target.name) or Address(target.name), value, node, path)
         return self.write_global(target, self.integer(value, node), node, path)
 
-    def write_part(self, target: object, value: Known, node: object, path: Path) -> Known:
+    def write_part(self, target: Node, value: Known, node: Node, path: Path) -> Known:
         """Gives a member, an element, or what a pointer leads to a new value."""
         return self.write_there(self.whole(target, path), value, node, path)
 
-    def step(self, node: object, path: Path) -> Known:
+    def step(self, node: Node, path: Path) -> Known:
         """`++` and `--`."""
         if self.is_ignored(node.expr):
             return self.leave_out_write(node.expr, None, path)
@@ -284,7 +285,7 @@ class Expressions(Addresses):
 
     # -- what needs variables
 
-    def read_global(self, node: object, path: Path) -> Known:
+    def read_global(self, node: Node, path: Path) -> Known:
         type_ = self.unit.constants.type_of(self.unit.globals[node.name])
         if self.is_ignored(node):
             return lost(INT, Lost(f"`{node.name}` is left out, so its value isn't known"))
@@ -295,7 +296,7 @@ class Expressions(Addresses):
         self.need(Family.VARIABLES, node, f"a variable that tasks and handlers share, `{node.name}`", self.instead_of_global(node.name))
         raise NotImplementedError
 
-    def never_created(self, node: object, type_: str) -> Refusal:
+    def never_created(self, node: Node, type_: str) -> Refusal:
         if type_.startswith("handle"):
             return self.refuse(node, f"`{node.name}` is created nowhere in this file", "its xQueueCreate, xTaskCreate or the like, in `main`")
         return self.refuse(node, f"{type_} has no op", "integers, and handles of objects and tasks")
@@ -305,13 +306,13 @@ class Expressions(Addresses):
             return "a queue or a semaphore that carries it, or bits of an event group"
         return f"--ignore {name}, or /* rtosim: ignore {name} */, if nothing depends on it"
 
-    def write_global(self, target: object, value: Value, node: object, path: Path) -> Known:
+    def write_global(self, target: Node, value: Value, node: Node, path: Path) -> Known:
         return self.read_global(target, path)
 
-    def is_ignored(self, target: object) -> bool:
+    def is_ignored(self, target: Node) -> bool:
         return trees.kind(target) == "ID" and self.frame.local(target.name) is None and target.name in self.unit.directives.ignored
 
-    def leave_out_write(self, target: object, value: Optional[object], path: Path) -> Known:
+    def leave_out_write(self, target: Node, value: MaybeNode, path: Path) -> Known:
         """A variable that has no effect is given no value; what is called for it is called."""
         if value is not None and trees.calls_in(value):
             self.evaluate(value, path)
@@ -320,7 +321,7 @@ class Expressions(Addresses):
 
     # -- calls of functions of the file
 
-    def follow(self, node: object, path: Path, on_return: Callable[[Path, Known], None]) -> None:
+    def follow(self, node: Node, path: Path, on_return: Callable[[Path, Known], None]) -> None:
         """Follows a call of a function of the file; each of its ways ends by `on_return`, in the frame of the call."""
         name, outer = trees.called(node), self.frame
         if name in outer.functions():
@@ -338,12 +339,12 @@ class Expressions(Addresses):
             body = definition.body.block_items or []
             self.statements(body, path, lambda fork: leave(fork, Nothing()))
 
-    def returned(self, value: Known, definition: object, node: object, path: Path) -> Known:
+    def returned(self, value: Known, definition: Node, node: Node, path: Path) -> Known:
         """What a function returns, as its type keeps it."""
         type_ = self.unit.constants.type_of(definition.decl.type.type)
         return self.fitted(value, type_, node, path) if isinstance(type_, Integer) and isinstance(value, Value) else value
 
-    def bind(self, definition: object, keys: List[str], node: object, path: Path) -> None:
+    def bind(self, definition: Node, keys: List[str], node: Node, path: Path) -> None:
         """Gives the parameters the values that are kept under these keys."""
         parameters = trees.parameters_of(definition)
         if len(parameters) != len(keys):
@@ -353,7 +354,7 @@ class Expressions(Addresses):
             key = self.declare(parameter.name, "a pointer" if type_ == "an array" else type_, parameter)
             self.write_local(key, self.taken(kept, path, node), node, path)
 
-    def followed_or_left_out(self, node: object, path: Path) -> Known:
+    def followed_or_left_out(self, node: Node, path: Path) -> Known:
         """What a call of a function of the file returns. One that has no op is left out if it can't be followed."""
         name = trees.called(node)
         if not self.unit.has_no_op(name):
@@ -373,7 +374,7 @@ class Expressions(Addresses):
             self.note(node, f"`{name}` has no op: left out")
             return self.unknown(f"what {name} returns isn't known", f"--ignore {name}=NUMBER, or {A_CONSTANT}", why.lost.array)
 
-    def followed(self, node: object, path: Path) -> Known:
+    def followed(self, node: Node, path: Path) -> Known:
         """What a call of a function of the file returns."""
         key = f"return@{self.spot(node)}"
 
@@ -389,10 +390,10 @@ class Expressions(Addresses):
 class Written:
     """An operator at the place of another node, as `+` of `+=`."""
 
-    def __init__(self, op: str, node: object):
+    def __init__(self, op: str, node: Node) -> None:
         self.op, self.coord = op, node.coord
 
 
-def not_set(type_: object) -> Value:
+def not_set(type_: Node) -> Value:
     return lost(type_ if isinstance(type_, Integer) else INT, NOT_SET)
 

@@ -10,7 +10,8 @@ from .calls import CREATORS, SETUP, SILENT, TASK_CREATORS
 from .cells import Content
 from .integers import Integer
 from .refusals import Lost, Place
-from .values import Address, Handle, Value
+from .trees import Node
+from .values import Address, Handle, Value, is_null
 
 if TYPE_CHECKING:
     from .unit import Unit
@@ -34,14 +35,14 @@ class Assigned:
     """What a task or a handler gives a global: the function, the expression, and its place."""
 
     function: str
-    value: object
+    value: Node
     place: Place
 
 
 class Fields:
     """The members of a file's global structures, by their names with dots."""
 
-    def __init__(self, unit: "Unit"):
+    def __init__(self, unit: "Unit") -> None:
         self.unit = unit
         # counts what is learned while functions are followed: those that were followed before are followed anew
         self.version = 0
@@ -49,12 +50,12 @@ class Fields:
         self.kept_found: Dict[str, Union[None, Content, Lost]] = {}
         self.unfollowed: Dict[str, Lost] = {}
         self.lost_members: Dict[str, Lost] = {}
-        self.running: FrozenSet[str] = frozenset(unit.reached([it.function for it in (*unit.tasks, *unit.handlers)])) - set(SETUP)
+        self.running: FrozenSet[str] = frozenset(unit.reached([*(it.function for it in unit.tasks), *(it.function for it in unit.handlers)])) - set(SETUP)
         self.read = self.members_read()
         self.written, self.addressed = self.members_written()
         self.assigned, self.assigned_somewhere = self.assignments()
         names = [it for name in unit.globals if unit.is_followed(name) for it in unit.reset.leaves(name)]
-        self.of_globals = {it.split(".")[-1] for it in names if "." in it} & self.read
+        self.of_globals: Set[str] = {it.split(".")[-1] for it in names if "." in it} & self.read
         nodes = [it for one in (*unit.functions.values(), *unit.globals.values()) for it in trees.walk(one)]
         self.integers_addressed = {it.expr.name for it in nodes if trees.kind(it) == "UnaryOp" and it.op == "&" and trees.kind(it.expr) == "ID"
                                    and isinstance(unit.constants.type_of(unit.globals.get(it.expr.name)), Integer)}
@@ -68,7 +69,7 @@ class Fields:
             self.add_read(function.body, True, found)
         return found
 
-    def add_read(self, node: object, is_statement: bool, found: Set[str]) -> None:
+    def add_read(self, node: Node, is_statement: bool, found: Set[str]) -> None:
         name = trees.kind(node)
         called = trees.called(node)
         if called is not None and (called in SILENT or called in self.unit.directives.ignored):
@@ -101,7 +102,7 @@ class Fields:
         return written | addressed, addressed
 
     def assignments(self) -> Tuple[Dict[str, List[Assigned]], Dict[str, List[Assigned]]]:
-        """What tasks and handlers give globals and members, by their names; and by the name of the member, if it isn't known of which."""
+        """What tasks and handlers give globals and members, by their names; and by the name of the member, if its structure isn't known."""
         found: Dict[str, List[Assigned]] = {}
         others: Dict[str, List[Assigned]] = {}
         for function in sorted(self.running):
@@ -198,7 +199,7 @@ class Fields:
         self.version += 1
 
     def is_read(self, name: str) -> bool:
-        """A member is read where no expression names it; false if others do so."""
+        """A member is read without an expression that names it; false if others do so."""
         member = name.split(".")[-1]
         if member in self.read:
             return False
@@ -242,7 +243,7 @@ class Fields:
         return Lost(f"`{name}` has another value from line {line} on, and it is followed only if it has one",
                     instead="a variable for each of them")
 
-    def contents(self, function: str, node: object, seen: FrozenSet[str] = frozenset()) -> Optional[List[Content]]:
+    def contents(self, function: str, node: Node, seen: FrozenSet[str] = frozenset()) -> Optional[List[Content]]:
         """What an expression may be, by all calls of its function; None if that isn't known. What is created is no change."""
         node = trees.plain(node)
         called = trees.called(node)
@@ -268,7 +269,7 @@ class Fields:
             return None
         return [it for it in values if it is not None] or None
 
-    def given(self, function: str, node: object) -> Iterator[Tuple[str, object]]:
+    def given(self, function: str, node: Node) -> Iterator[Tuple[str, Node]]:
         """What the parameter, or the local, of this name is given."""
         local = trees.find(self.unit.functions[function].body, lambda it: trees.kind(it) == "Decl" and it.name == node.name)
         if local is not None and local.init is not None:
@@ -279,7 +280,7 @@ class Fields:
             for caller, words in [*self.unit.given.calls.get(function, []), *self.unit.given.tasks.get(function, [])]:
                 yield from ((caller, it) for it in words[at:at + 1])
 
-    def tasks_given(self, function: str, node: object) -> Optional[List[str]]:
+    def tasks_given(self, function: str, node: Node) -> Optional[List[str]]:
         """The tasks whose handle an expression is; None if it isn't known to be one."""
         found = self.contents(function, node) or []
         tasks = [it.name for it in found if isinstance(it, Handle) and it.kind == "task"]
@@ -290,9 +291,5 @@ def it_changes(fields: Fields, name: str) -> bool:
     return name in fields.assigned or "." in name and name.split(".")[-1] in fields.assigned_somewhere
 
 
-def is_null(value: Content) -> bool:
-    return isinstance(value, Value) and value.constant() == 0
-
-
-def is_volatile(declaration: object) -> bool:
+def is_volatile(declaration: Node) -> bool:
     return any("volatile" in (getattr(it, "quals", None) or []) for it in trees.walk(declaration.type))

@@ -3,6 +3,7 @@ from dataclasses import dataclass, field, replace
 from typing import Callable, Dict, Optional, Tuple
 
 from .paths import Path
+from .trees import Node
 from .values import Known
 
 Continuation = Callable[[Path], None]
@@ -39,8 +40,25 @@ class Frame:
     def inner(self) -> "Frame":
         return replace(self, scopes=(*self.scopes, {}))
 
-    def with_jumps(self, **changes: object) -> "Frame":
+    def with_jumps(self, **changes: Node) -> "Frame":
         return replace(self, jumps=replace(self.jumps, **changes))
 
     def functions(self) -> Tuple[str, ...]:
         return (self.function, *(self.outer.functions() if self.outer else ()))
+
+
+def both(first: Continuation, then: Continuation) -> Continuation:
+    """Does the first on a path, and then the other."""
+    def go(path: Path) -> None:
+        first(path)
+        then(path)
+    return go
+
+
+def nowhere(path: Path, value: Known) -> None:
+    """A function that isn't entered is never left."""
+    raise AssertionError(path, value)
+
+
+# before a function is entered
+NO_FRAME = Frame("", Jumps(nowhere))

@@ -5,15 +5,16 @@ from typing import Dict, FrozenSet, List, Tuple
 from . import trees
 from .calls import TASK_CREATORS
 from .constants import Constants
+from .trees import Node
 
 
 class Given:
     """What the parameters of the functions of a file lead to, by all calls of each function."""
 
-    def __init__(self, functions: Dict[str, object], names_of_globals: FrozenSet[str], constants: Constants):
+    def __init__(self, functions: Dict[str, Node], names_of_globals: FrozenSet[str], constants: Constants) -> None:
         self.functions, self.globals, self.constants = functions, names_of_globals, constants
-        self.calls: Dict[str, List[Tuple[str, List[object]]]] = {}
-        self.tasks: Dict[str, List[Tuple[str, List[object]]]] = {}
+        self.calls: Dict[str, List[Tuple[str, List[Node]]]] = {}
+        self.tasks: Dict[str, List[Tuple[str, List[Node]]]] = {}
         for name, it in functions.items():
             for node in trees.walk(it.body):
                 called, words = trees.called(node), trees.arguments(node) if trees.called(node) else []
@@ -23,7 +24,7 @@ class Given:
                     task = words[0].expr if trees.kind(words[0]) == "UnaryOp" else trees.plain(words[0])
                     self.tasks.setdefault(getattr(task, "name", ""), []).append((name, words[3:4]))
 
-    def names(self, function: str, node: object) -> List[str]:
+    def names(self, function: str, node: Node) -> List[str]:
         """What is named in a function, each with its members, as `first.lock`; nothing if that isn't known."""
         name = trees.kind(node)
         if name == "ID":
@@ -48,8 +49,8 @@ class Given:
                     found += [place for one in words for place in self.leads_to(name, one)]
         return list(dict.fromkeys(found))
 
-    def leads_to(self, function: str, pointer: object, seen: FrozenSet[str] = frozenset()) -> List[str]:
-        """The globals to which a pointer leads: that of which it is the address, or what the local or the parameter of this name is given."""
+    def leads_to(self, function: str, pointer: Node, seen: FrozenSet[str] = frozenset()) -> List[str]:
+        """The globals to which a pointer leads: the one whose address it is, or what the local or the parameter of this name is given."""
         pointer = trees.plain(pointer)
         if trees.kind(pointer) == "UnaryOp" and pointer.op == "&":
             return [it for it in self.names(function, pointer.expr) if trees.root(it) in self.globals]

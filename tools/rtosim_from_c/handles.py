@@ -8,10 +8,12 @@ from . import trees
 from .answers import Answers, only
 from .calls import TASK_CREATORS, Argument, Call
 from .families import Target
+from .frames import both
 from .integers import UNSIGNED
 from .paths import Path
 from .registers import Registers
 from .shared import is_shared
+from .trees import Node
 from .unit import GLOBAL, Handler, Task, Unit
 from .values import Address, Handle, Known, Reference, Stored, Value, binary, constant, truth
 
@@ -21,13 +23,13 @@ CALLER = "xTaskGetCurrentTaskHandle"
 class Handles(Registers):
     """Calls, reads and writes of handles that change."""
 
-    def __init__(self, unit: Unit, target: Target, owner: Union[Task, Handler]):
+    def __init__(self, unit: Unit, target: Target, owner: Union[Task, Handler]) -> None:
         super().__init__(unit, target, owner)
         if unit.changing is None:
             unit.changing = changing_handles(unit)
         self.changing = unit.changing if self.has_variables else {}
         # The task of a call's argument, while the call is translated for this task.
-        self.chosen: Dict[object, Handle] = {}
+        self.chosen: Dict[Node, Handle] = {}
 
     def number_of(self, task: str) -> int:
         return 1 + [it.name for it in self.unit.tasks].index(task)
@@ -36,7 +38,7 @@ class Handles(Registers):
         task = self.unit.created_as.get(name)
         return self.variable(f"{GLOBAL}{name.replace('.', '_')}", UNSIGNED, self.number_of(task) if task is not None else 0)
 
-    def changing_name(self, node: object, path: Path) -> Optional[str]:
+    def changing_name(self, node: Node, path: Path) -> Optional[str]:
         """The handle that changes and that a node names; None if it is none."""
         node = trees.plain(node)
         if trees.kind(node) == "ID":
@@ -44,26 +46,27 @@ class Handles(Registers):
         if trees.kind(node) != "StructRef" or not any("." in it for it in self.changing):
             return None
         where = self.whole(node, path.fork(path.state.answers))
-        is_global = isinstance(where, Address) and (where.key is None or is_shared(where))
-        return where.name if is_global and where.name in self.changing else None
+        if not isinstance(where, Address) or where.key is not None and not is_shared(where):
+            return None
+        return where.name if where.name in self.changing else None
 
     # -- reads and writes
 
-    def evaluate(self, node: object, path: Path) -> Known:
+    def evaluate(self, node: Node, path: Path) -> Known:
         if node in self.chosen:
             return self.chosen[node]
         name = self.changing_name(node, path) if self.changing and trees.kind(node) in ("ID", "StructRef") else None
         return super().evaluate(node, path) if name is None else self.load_handle(name, node, path)
 
-    def operand(self, node: object, path: Path) -> Known:
+    def operand(self, node: Node, path: Path) -> Known:
         return self.chosen.get(trees.plain(node)) or super().operand(node, path)
 
-    def load_handle(self, name: str, node: object, path: Path) -> Value:
+    def load_handle(self, name: str, node: Node, path: Path) -> Value:
         self.op(f"load {self.variable_of(name).name}", node, path)
         numbers = only(0, *(self.number_of(it) for it in self.changing[name]))
         return self.is_answered(numbers, UNSIGNED, node, path)
 
-    def write(self, target: object, value: Known, node: object, path: Path) -> Known:
+    def write(self, target: Node, value: Known, node: Node, path: Path) -> Known:
         name = self.changing_name(target, path) if self.changing else None
         if name is None or isinstance(value, (Address, Reference)):
             return super().write(target, value, node, path)
@@ -75,7 +78,7 @@ class Handles(Registers):
             self.store(stored, value, node, path)
         return value
 
-    def compared_handles(self, node: object, left: Known, right: Known, path: Path) -> Value:
+    def compared_handles(self, node: Node, left: Known, right: Known, path: Path) -> Value:
         task, other = (left, right) if isinstance(left, Handle) else (right, left)
         is_loaded = isinstance(other, Value) and other.among(path.state.answers).constant() is None
         if not is_loaded or not isinstance(task, Handle) or task.kind != "task":
@@ -84,7 +87,7 @@ class Handles(Registers):
 
     # -- calls
 
-    def call(self, call: Call, node: object, path: Path) -> Known:
+    def call(self, call: Call, node: Node, path: Path) -> Known:
         """A call with such a handle, or with a local that has one: the same for each task that it may be of."""
         words = trees.arguments(node)
         word = next((it for one, it in zip(call.arguments, words) if one in (Argument.TASK, Argument.TASK_OR_CALLER)), None)
@@ -93,26 +96,27 @@ class Handles(Registers):
         if tasks is None:
             return super().call(call, node, path)
         number = self.integer(self.evaluate(word, path), word)
+        named = tasks
         if Argument.TASK_OR_CALLER in call.arguments:
-            tasks = {0: self.owner.name, **tasks}
+            named = {0: self.owner.name, **tasks}
         else:
             self.expect(self.truth(number, word, path), word, path)
         key = f"call@{self.spot(node)}"
 
         def of_one(fork: Path) -> None:
-            self.chosen[word] = Handle("task", next(name for it, name in tasks.items() if self.may_be(number, it, fork)))
+            self.chosen[word] = Handle("task", next(name for it, name in named.items() if self.may_be(number, it, fork)))
             try:
                 self.put(key, super(Handles, self).call(call, node, fork), node, fork)
             finally:
                 del self.chosen[word]
-        parts = [it for it in (self.numbered(number, it, path) for it in tasks) if it]
+        parts = [it for it in (self.numbered(number, it, path) for it in named) if it]
         if len(parts) == 1:
             of_one(path)
         elif parts:
-            self.meet(path, lambda end: self.split(path, parts, lambda fork: (of_one(fork), end(fork)), node))
+            self.meet(path, lambda end: self.split(path, parts, both(of_one, end), node))
         return self.taken(key, path, node)
 
-    def tasks_of(self, word: object, path: Path) -> Optional[Dict[int, str]]:
+    def tasks_of(self, word: Node, path: Path) -> Optional[Dict[int, str]]:
         """The tasks that a handle which changes may be of, by their numbers; None for any other handle."""
         name = self.changing_name(word, path)
         key = self.frame.local(word.name) if trees.kind(word) == "ID" else None
@@ -155,7 +159,7 @@ def changing_handles(unit: Unit) -> Dict[str, FrozenSet[str]]:
     return {name: frozenset(it) for name, it in tasks.items() if it and (name in with_null or len(it) > 1)}
 
 
-def assignments(unit: Unit) -> Iterator[Tuple[str, str, object]]:
+def assignments(unit: Unit) -> Iterator[Tuple[str, str, Node]]:
     """Each function that gives a global, or a member of one, a value: its name, that of the global, and the value."""
     for function, definition in unit.functions.items():
         for node in trees.walk(definition.body):
@@ -165,13 +169,13 @@ def assignments(unit: Unit) -> Iterator[Tuple[str, str, object]]:
                         yield function, name, trees.plain(node.rvalue)
 
 
-def tasks_given(unit: Unit, function: str, value: object) -> Optional[List[str]]:
+def tasks_given(unit: Unit, function: str, value: Node) -> Optional[List[str]]:
     """The tasks whose handle a value is; None if it is no such handle."""
     if trees.called(value) == CALLER:
         return [it.name for it in unit.tasks if function in unit.reached([it.function])]
     return unit.fields.tasks_given(function, value)
 
 
-def is_null(unit: Unit, value: object) -> bool:
+def is_null(unit: Unit, value: Node) -> bool:
     found = unit.constants.value(value)
     return found is not None and found.constant() == 0

@@ -1,27 +1,28 @@
 """Which expression of an initializer each member or element begins with, as C gives them out: in order, by designators, and without
 inner braces."""
 import sys
-from typing import Callable, Dict, List, Optional, Sequence
+from typing import Callable, Dict, List, Sequence
 
 from . import trees
 from .constants import Constants
+from .trees import MaybeNode, Node
 
 MOST_ELEMENTS = 64
-IsWhole = Callable[[object], bool]
+IsWhole = Callable[[Node], bool]
 
 
 class Initializers:
     """Gives out the expressions of initializers. `is_whole` says whether an expression is a structure."""
 
-    def __init__(self, constants: Constants, is_whole: IsWhole = lambda it: False):
+    def __init__(self, constants: Constants, is_whole: IsWhole = lambda it: False) -> None:
         self.constants, self.is_whole = constants, is_whole
 
-    def of_members(self, declaration: object, given: Sequence[object]) -> Dict[str, object]:
+    def of_members(self, declaration: Node, given: Sequence[Node]) -> Dict[str, Node]:
         """The expressions of a structure's members by their names. Of a member without braces of its own they are in a list."""
         whole = self.constants.structure(declaration)
         members = [it for it in (whole.decls if whole is not None else []) if it.name or trees.kind(it.type) in ("Struct", "Union")]
         names = [it.name or "" for it in members]
-        found: Dict[str, object] = {}
+        found: Dict[str, Node] = {}
         at = next_one = 0
         while next_one < len(given):
             it = given[next_one]
@@ -40,11 +41,11 @@ class Initializers:
             at += 1
         return found
 
-    def of_element(self, declaration: object, given: Sequence[object], index: int) -> Optional[object]:
+    def of_element(self, declaration: Node, given: Sequence[Node], index: int) -> MaybeNode:
         """The expression of an element of an array; None if it has none."""
         element = trees.element(declaration)
         at = next_one = 0
-        found: Optional[object] = None
+        found: MaybeNode = None
         while next_one < len(given):
             it = given[next_one]
             if trees.kind(it) == "NamedInitializer":
@@ -61,12 +62,12 @@ class Initializers:
             at += 1
         return found
 
-    def lacks_braces(self, declaration: object, it: object) -> bool:
+    def lacks_braces(self, declaration: Node, it: Node) -> bool:
         """Whether one expression is the first of a structure or an array that has no braces of its own."""
         is_many = self.constants.structure(declaration) is not None or self.constants.type_of(declaration) == "an array"
         return is_many and trees.kind(it) != "InitList" and not self.is_whole(it) and not is_text(it)
 
-    def end(self, declaration: object, given: Sequence[object], at: int) -> int:
+    def end(self, declaration: Node, given: Sequence[Node], at: int) -> int:
         """Which expression comes after those of what is declared so."""
         if at >= len(given) or trees.kind(given[at]) == "NamedInitializer":
             return at
@@ -84,17 +85,17 @@ class Initializers:
         return at
 
 
-def is_text(node: object) -> bool:
+def is_text(node: Node) -> bool:
     return trees.kind(node) == "Constant" and node.value.startswith('"')
 
 
-def listed(nodes: Sequence[object]) -> object:
+def listed(nodes: Sequence[Node]) -> Node:
     """These expressions as if they had braces around them."""
     return sys.modules[type(nodes[0]).__module__].InitList(list(nodes), nodes[0].coord)
 
 
-def inside(before: Optional[object], named: object) -> object:
+def inside(before: MaybeNode, named: Node) -> Node:
     """The list of a member with what a designator says of a part of it."""
-    nodes: List[object] = list(before.exprs) if trees.kind(before) == "InitList" else []
+    nodes: List[Node] = list(before.exprs) if trees.kind(before) == "InitList" else []
     module = sys.modules[type(named).__module__]
     return module.InitList([*nodes, module.NamedInitializer(named.name[1:], named.expr, named.coord)], named.coord)

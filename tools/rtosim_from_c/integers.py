@@ -34,7 +34,7 @@ WRITTEN: Dict[str, Optional[str]] = {
     "=": None, "+=": "+", "-=": "-", "*=": "*", "/=": "/", "%=": "%", "&=": "&", "|=": "|", "^=": "^", "<<=": "<<", ">>=": ">>",
 }
 
-# The names in a declaration, sorted, without `int` where another name is there.
+# The names in a declaration, sorted, without `int` if another name is there.
 NAMED: Dict[str, Integer] = {
     "_Bool": BOOL, "bool": BOOL,
     "char": Integer(8, False), "char signed": Integer(8, True), "char unsigned": Integer(8, False),

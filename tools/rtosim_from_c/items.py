@@ -68,7 +68,7 @@ def lines_of(items: Sequence[Item]) -> List[Line]:
 
 
 def leaves(items: Sequence[Item]) -> bool:
-    """Whether what is behind these items is never reached by them: they end with a `break`."""
+    """Whether what follows these items is never reached from them: they end with a `break`."""
     last = items[-1] if items else None
     if isinstance(last, If):
         return bool(last.no) and leaves(last.yes) and leaves(last.no)
@@ -110,7 +110,7 @@ def chosen(among: Answers, wanted: Answers, yes: Sequence[Item], no: Sequence[It
 
 
 def by_variable(condition: str, yes: Sequence[Item], no: Sequence[Item], place: Place) -> List[Item]:
-    """The items that do `yes` where the last answer is as this condition says, in which a variable is named, and `no` otherwise."""
+    """The items that do `yes` if the last answer is as this condition says, which names a variable, and `no` otherwise."""
     if list(yes) == list(no):
         return list(yes)
     opposite = f"not {condition}" if " " not in condition else condition[4:] if condition.startswith("not ") else None
@@ -120,7 +120,7 @@ def by_variable(condition: str, yes: Sequence[Item], no: Sequence[Item], place: 
 
 
 def parts_of(among: Answers, wanted: Answers, yes: Sequence[Item], no: Sequence[Item]) -> List[Tuple[Answers, Sequence[Item]]]:
-    """The answers in parts, each of which a condition picks among those that are left; single answers first, where that is all."""
+    """The answers in parts, each picked by a condition among those that are left; single answers first, if that is all."""
     parts = segments(wanted, among)
     for is_one, items, others in ((True, yes, no), (False, no, yes)):
         singles = [part for part, is_wanted in parts if is_wanted == is_one]
@@ -143,7 +143,7 @@ def chain(parts: Sequence[Tuple[Answers, Sequence[Item]]], place: Place) -> List
 
 def folded(items: Sequence[Item]) -> Optional[Tuple[int, Tuple[Item, ...]]]:
     """Equal parts one after another, as how many they are and one of them. What lacks at the end may be tests, which then leave
-    the loop where it ends anyway."""
+    the loop at its end in any case."""
     size = len(items)
     for period in range(1, size // 2 + 2):
         part = items[:period]

@@ -1,4 +1,4 @@
-"""Loops: as one that repeats for ever and is left, or, where a local counts its turns, as so many turns that are the same."""
+"""Loops: as one that repeats forever and is left, or, if a local counts its turns, as so many turns that are the same."""
 from dataclasses import dataclass, field
 from typing import Callable, Dict, List, Optional, Set, Tuple, Union
 
@@ -12,6 +12,7 @@ from .items import Break, Item, Repeat, chosen, folded, has_break
 from .paths import Path, State, is_same, merged
 from .refusals import Lost, LostUse
 from .statements import TURNS, Statements, first_comment
+from .trees import Node
 from .unit import Handler, Task, Unit
 from .values import Known
 
@@ -37,29 +38,29 @@ Turn = Tuple[List[Item], Ways]
 class Loops(Statements):
     """`while`, `do` and `for`."""
 
-    def __init__(self, unit: Unit, target: Target, owner: Union[Task, Handler]):
+    def __init__(self, unit: Unit, target: Target, owner: Union[Task, Handler]) -> None:
         super().__init__(unit, target, owner)
         # Loops whose turns a comment counts, with how many are left.
-        self.turns_left: Dict[object, int] = {}
+        self.turns_left: Dict[Node, int] = {}
         # Loops that are left by their end and by `return`, with the answer that says by `return`, and the one that says by the end.
-        self.marks: Dict[object, Tuple[int, Optional[int]]] = {}
+        self.marks: Dict[Node, Tuple[int, Optional[int]]] = {}
         # whether a loop around this can still be tried in another form
         self.has_other_forms = False
 
-    def do_While(self, node: object, path: Path, rest: Optional[Continuation]) -> None:
+    def do_While(self, node: Node, path: Path, rest: Optional[Continuation]) -> None:
         self.loop(node, path, rest)
 
-    def do_DoWhile(self, node: object, path: Path, rest: Optional[Continuation]) -> None:
+    def do_DoWhile(self, node: Node, path: Path, rest: Optional[Continuation]) -> None:
         self.loop(node, path, rest)
 
-    def do_For(self, node: object, path: Path, rest: Optional[Continuation]) -> None:
+    def do_For(self, node: Node, path: Path, rest: Optional[Continuation]) -> None:
         after = None if rest is None else self.later(rest)
         with self.using(self.frame.inner()):
             if node.init is not None:
                 self.statement(node.init, path, None)
             self.loop(node, path, after)
 
-    def loop(self, node: object, path: Path, rest: Optional[Continuation]) -> None:
+    def loop(self, node: Node, path: Path, rest: Optional[Continuation]) -> None:
         """The first of these forms in which every value that decides something is known."""
         turns = said_turns(node) if getattr(node, "cond", None) is not None else None
         if turns is not None and self.is_lost(node.cond, path):
@@ -76,7 +77,7 @@ class Loops(Statements):
         path.items += items
         self.after_loop(node, path, ways, rest)
 
-    def said(self, node: object, state: State, turns: int) -> Turn:
+    def said(self, node: Node, state: State, turns: int) -> Turn:
         """As many turns as a comment says."""
         self.note(node, f"a comment says that this loop has {turns} turn{'s' * (turns != 1)}")
         self.turns_left[node] = turns - (trees.kind(node) == "DoWhile")
@@ -85,8 +86,8 @@ class Loops(Statements):
         finally:
             self.turns_left.pop(node, None)
 
-    def first_form(self, node: object, state: State) -> Turn:
-        forms: List[Callable[[object, State], Turn]] = [self.all_alike, self.asked_before, self.counted]
+    def first_form(self, node: Node, state: State) -> Turn:
+        forms: List[Callable[[Node, State], Turn]] = [self.all_alike, self.asked_before, self.counted]
         if trees.kind(node) == "DoWhile":
             forms.remove(self.asked_before)
         first: Optional[LostUse] = None
@@ -105,12 +106,12 @@ class Loops(Statements):
 
     # -- forms
 
-    def all_alike(self, node: object, state: State) -> Turn:
+    def all_alike(self, node: Node, state: State) -> Turn:
         """`repeat forever`, whose turns have the condition where C has it."""
         is_last = trees.kind(node) == "DoWhile"
         return self.repeated(node, state, lambda it, ways: self.turn(node, it, ways, not is_last, is_last))
 
-    def asked_before(self, node: object, state: State) -> Turn:
+    def asked_before(self, node: Node, state: State) -> Turn:
         """The condition of a `while` once, and then `repeat forever`, whose turns end with the condition."""
         before, ways = Path(state), Ways()
 
@@ -127,27 +128,27 @@ class Loops(Statements):
         self.condition_of(node, before, self.later(enter), self.later(skip))
         return before.items, ways
 
-    def repeated(self, node: object, state: State, turn: Callable[[Path, Ways], None]) -> Turn:
-        """Turns that are the same for ever, from what is known before each of them."""
+    def repeated(self, node: Node, state: State, turn: Callable[[Path, Ways], None]) -> Turn:
+        """Turns that are the same forever, from what is known before each of them."""
         head = state
         for _ in range(MOST_ROUNDS):
             path, ways = Path(head), Ways()
             turn(path, ways)
             if not ways.back:
                 return self.once(node, path.items), ways
-            again = merged([head, *ways.back])
+            again = merged([head, *ways.back]) or head
             if is_same(again, head):
                 return [Repeat("forever", tuple(path.items), self.place(node))], ways
             head = again
         raise LostUse(self.place(node), Lost("a local has another value in each turn of this loop"))
 
-    def once(self, node: object, items: List[Item]) -> List[Item]:
+    def once(self, node: Node, items: List[Item]) -> List[Item]:
         """A loop that is left in its first turn."""
         if items and isinstance(items[-1], Break):
             items = items[:-1]
         return [Repeat("1", tuple(items), self.place(node))] if has_break(items) else items
 
-    def counted(self, node: object, state: State) -> Turn:
+    def counted(self, node: Node, state: State) -> Turn:
         """Each turn by itself, with the number that counts it. Turns that are the same become a `repeat` of so many, and the last one
         a `repeat forever` if nothing else is known after it than before it."""
         turns: List[List[Item]] = []
@@ -169,14 +170,14 @@ class Loops(Statements):
             state = again
         return self.turns(node, [it for turn in turns for it in turn]), total
 
-    def give_up_on_many(self, node: object, turns: List[List[Item]], changed: Set[str]) -> None:
-        """Gives up where the turns are too many; where nothing that is tested in the loop has changed, a few are."""
+    def give_up_on_many(self, node: Node, turns: List[List[Item]], changed: Set[str]) -> None:
+        """Gives up if the turns are too many; if nothing that is tested in the loop has changed, a few are too many."""
         is_alike = len(turns) > 1 and turns[-1] == turns[-2]
         is_counted = len(turns) < FEW_TURNS or changed & self.unit.tested(node)
         if len(turns) > MOST_TURNS or not is_counted or sum(map(len, turns)) > MOST_APART and not is_alike:
             raise LostUse(self.place(node), Lost("how many turns this loop has isn't known, or they are too many to write out"))
 
-    def turns(self, node: object, items: List[Item]) -> List[Item]:
+    def turns(self, node: Node, items: List[Item]) -> List[Item]:
         if items and isinstance(items[-1], Break):
             items = items[:-1]
         parts = folded(items)
@@ -191,8 +192,8 @@ class Loops(Statements):
 
     # -- one turn
 
-    def turn(self, node: object, path: Path, ways: Ways, is_asked_first: bool, is_asked_last: bool) -> None:
-        """A turn, with the condition before it or behind it."""
+    def turn(self, node: Node, path: Path, ways: Ways, is_asked_first: bool, is_asked_last: bool) -> None:
+        """A turn, with the condition before it or after it."""
         self.count(node)
         bodies: List[State] = []
 
@@ -226,12 +227,12 @@ class Loops(Statements):
             body(path)
         self.close_turn(node, path, bodies, ways, outside if is_asked_last else None)
 
-    def leave_at_condition(self, node: object, path: Path, leave: Continuation) -> None:
+    def leave_at_condition(self, node: Node, path: Path, leave: Continuation) -> None:
         self.jump = node
         leave(path)
 
-    def close_turn(self, node: object, path: Path, bodies: List[State], ways: Ways, outside: Optional[Continuation]) -> None:
-        """What comes behind the body: the step of a `for`, and perhaps the condition."""
+    def close_turn(self, node: Node, path: Path, bodies: List[State], ways: Ways, outside: Optional[Continuation]) -> None:
+        """What comes after the body: the step of a `for`, and perhaps the condition."""
         state = merged(bodies)
         if state is None:
             return
@@ -248,7 +249,7 @@ class Loops(Statements):
         else:
             self.condition_of(node, path, self.later(back), outside)
 
-    def condition_of(self, node: object, path: Path, yes: Continuation, no: Continuation) -> None:
+    def condition_of(self, node: Node, path: Path, yes: Continuation, no: Continuation) -> None:
         if node in self.turns_left:
             self.turns_left[node] -= 1
             (yes if self.turns_left[node] >= 0 else no)(path)
@@ -258,7 +259,7 @@ class Loops(Statements):
             self.condition(node.cond, path, yes, no)
 
     def learns(self, why: Lost) -> bool:
-        """Notes where ways are to go on apart, so that this isn't lost the next time; false if that was noted before."""
+        """Notes a place at which ways must go on apart, so that nothing is lost there the next time; false if it was noted before."""
         local = why.local or ""
         size = len(self.splits) + len(self.parted)
         if why.taken_at is not None:
@@ -267,9 +268,9 @@ class Loops(Statements):
             self.parted.add(local)
         return len(self.splits) + len(self.parted) > size
 
-    # -- behind a loop
+    # -- after a loop
 
-    def after_loop(self, node: object, path: Path, ways: Ways, rest: Optional[Continuation]) -> None:
+    def after_loop(self, node: Node, path: Path, ways: Ways, rest: Optional[Continuation]) -> None:
         """Goes on with the states in which the loop is left; by a `return` it is left as the function is."""
         left, returned = merged(ways.left), merged(ways.returned)
         path.end()
@@ -286,8 +287,8 @@ class Loops(Statements):
     def return_on(self, path: Path) -> None:
         self.frame.jumps.on_return(path, self.taken(RETURNED, path, self.jump))
 
-    def part(self, node: object, path: Path, left: State, returned: State, rest: Optional[Continuation]) -> None:
-        """Both ways lead behind the loop: the last answer says which it was."""
+    def part(self, node: Node, path: Path, left: State, returned: State, rest: Optional[Continuation]) -> None:
+        """Both ways lead past the loop: the last answer says which it was."""
         if left.answers & returned.answers and rest is None:
             self.mark(node, left)
         by_return, by_end = Path(returned), Path(left)
@@ -307,7 +308,7 @@ class Loops(Statements):
             path.state = left
 
 
-    def mark(self, node: object, left: State) -> None:
+    def mark(self, node: Node, left: State) -> None:
         """Lets the last answer say how this loop is left, the next time."""
         if self.can_mark() and node not in self.marks:
             others = NUMBERS - left.answers
@@ -318,11 +319,11 @@ class Loops(Statements):
         """Whether a number can be made the last answer."""
         return False
 
-    def mark_way(self, node: object, path: Path, is_return: bool) -> None:
+    def mark_way(self, node: Node, path: Path, is_return: bool) -> None:
         """Makes the last answer say how a loop is left, if nothing else says it."""
 
 
-def said_turns(node: object) -> Optional[int]:
+def said_turns(node: Node) -> Optional[int]:
     """How many turns a comment at the beginning of a loop says that it has; None if there is no such comment."""
     words = first_comment(node.stmt)
     return number(words[2]) if words[:2] == TURNS and len(words) == 3 else None

@@ -1,4 +1,4 @@
-"""Variables: globals, and locals of which the last answer doesn't keep enough. It is for a program that knows them (`families.py`).
+"""Variables: globals, and locals that the last answer doesn't keep well enough. It is for a program that knows them (`families.py`).
 
 A read is `load`, a write `store`; arithmetic is done with the last answer and a number or a variable."""
 import re
@@ -12,12 +12,14 @@ from .cells import NotKnown
 from .core import Compared, Test
 from .expressions import NOT_SET, Written
 from .families import Family, Target
+from .frames import both
 from .integers import BOOL, COMPARISONS, INT, UNSIGNED, Integer, common, promoted
 from .items import If, Op
 from .loops import Loops
 from .paths import Path
 from .refusals import Lost, LostUse, Refusal
 from .statements import MIRRORED
+from .trees import MaybeNode, Node
 from .unit import GLOBAL, Handler, Task, Unit
 from .values import ANSWER, LOST, NUMBER, Handle, Known, Piece, Stored, Value, binary, constant, converted, lost, steady, the_answer
 
@@ -25,21 +27,21 @@ SIZE = 1 << 32
 SIGN = 1 << 31
 OPS = {"+": "add", "-": "sub", "*": "mul", "/": "div", "%": "mod", "&": "and", "|": "or", "^": "xor"}
 COMMUTATIVE = "+*&|^"
-# The condition of the last answer and a variable, and whether the comparison holds where that condition does.
+# The condition of the last answer and a variable, and whether the comparison holds if that condition does.
 CONDITIONS = {"==": ("{}", True), "!=": ("{}", False), "<": ("below {}", True), ">=": ("below {}", False), ">": ("above {}", True),
               "<=": ("above {}", False)}
 
 
 class Memory(Loops):
-    """What needs variables, where the program knows them. Without that everything here leaves it to the refusals."""
+    """What needs variables, if the program knows them. Without that everything here is left to the refusals."""
 
-    # Whether a local may be a variable; otherwise ways go on apart where another answer takes what it was.
+    # Whether a local may be a variable; otherwise ways go on apart when another answer overwrites it.
     uses_memory = False
     # The comparison that is a condition, and what it asks for.
-    testing: Optional[object] = None
+    testing: MaybeNode = None
     tested: Optional[Compared] = None
 
-    def __init__(self, unit: Unit, target: Target, owner: Union[Task, Handler]):
+    def __init__(self, unit: Unit, target: Target, owner: Union[Task, Handler]) -> None:
         super().__init__(unit, target, owner)
         # The variables that others may change.
         self.shared: Set[str] = set()
@@ -48,7 +50,7 @@ class Memory(Loops):
     def has_variables(self) -> bool:
         return Family.VARIABLES in self.target
 
-    def test(self, node: object, path: Path) -> Test:
+    def test(self, node: Node, path: Path) -> Test:
         """What a condition asks of the last answer: a comparison with a variable is a condition of its own."""
         before, self.testing = self.testing, node
         try:
@@ -73,7 +75,7 @@ class Memory(Loops):
 
     # -- reads and writes
 
-    def load(self, stored: Stored, node: object, path: Path) -> Value:
+    def load(self, stored: Stored, node: Node, path: Path) -> Value:
         self.there(stored, node, path)
         if self.is_answer_now(stored, path):
             return the_answer(stored.type, path.state.answers)
@@ -86,12 +88,12 @@ class Memory(Loops):
         words = last.text.split() if isinstance(last, Op) else []
         return stored.name not in self.shared and words[:1] in (["store"], ["load"]) and words[1] == stored.name
 
-    def is_answered(self, among: Answers, type_: Integer, node: object, path: Path) -> Value:
+    def is_answered(self, among: Answers, type_: Integer, node: Node, path: Path) -> Value:
         """The last answer is one of these now, and a value of this type."""
         path.state = path.state.answered(among, f"what line {self.place(node).line} reads", self.place(node))
         return the_answer(type_, among)
 
-    def store(self, stored: Stored, value: Known, node: object, path: Path) -> None:
+    def store(self, stored: Stored, value: Known, node: Node, path: Path) -> None:
         """Gives the variable a value, which is the last answer then."""
         value = self.within(self.known(self.integer(value, node), node, path), node, path)
         if value.constant() is not None:
@@ -101,22 +103,22 @@ class Memory(Loops):
             return
         self.each_part(value, node, path, stored)
 
-    def to_answer(self, value: Value, node: object, path: Path) -> None:
+    def to_answer(self, value: Value, node: Node, path: Path) -> None:
         """Makes the last answer the value, with 32 bits."""
         self.each_part(self.within(self.known(value, node, path), node, path), node, path, None)
 
-    def within(self, value: Known, node: object, path: Path, least: int = 0, greatest: int = GREATEST) -> Known:
+    def within(self, value: Known, node: Node, path: Path, least: int = 0, greatest: int = GREATEST) -> Known:
         """The value, if an op keeps all of its bits: one of 64 bits must be a number of 32 bits without a sign."""
         found = bounds(value, path) if value.type.bits > UNSIGNED.bits else None
         if found is not None and not least <= found[0] <= found[1] <= greatest:
             raise self.too_large(node)
         return value
 
-    def too_large(self, node: object) -> Refusal:
+    def too_large(self, node: Node) -> Refusal:
         return self.refuse(node, "this may need more than 32 bits, and a script has 32",
                            "types of 32 bits; or --ignore NAME for a variable on which nothing depends")
 
-    def each_part(self, value: Value, node: object, path: Path, stored: Optional[Stored]) -> None:
+    def each_part(self, value: Value, node: Node, path: Path, stored: Optional[Stored]) -> None:
         """Makes the last answer a value that is known, for each answer by which it is another one; and perhaps gives it to a variable."""
         parts: Dict[Tuple[str, int], List[Tuple[int, int]]] = {}
         for it in value.pieces:
@@ -138,10 +140,10 @@ class Memory(Loops):
             return set_part(path)
         if stored is not None and cut_alike(parts, stored.type):
             return self.store_cut(next(iter(parts))[1], stored, node, path)
-        self.meet(path, lambda end: self.split(path, [answers(*it) for it in parts.values()], lambda fork: (set_part(fork), end(fork)), node))
+        self.meet(path, lambda end: self.split(path, [answers(*it) for it in parts.values()], both(set_part, end), node))
         return None
 
-    def store_cut(self, number: int, stored: Stored, node: object, path: Path) -> None:
+    def store_cut(self, number: int, stored: Stored, node: Node, path: Path) -> None:
         """Gives a variable the last answer and a number, without the bits that its type doesn't keep."""
         greatest = (1 << stored.type.bits) - 1
         if number & greatest:
@@ -151,7 +153,7 @@ class Memory(Loops):
         self.is_answered(answers((0, greatest)), UNSIGNED, node, path)
         self.op(f"store {stored.name} answer", node, path)
 
-    def answer_number(self, number: int, node: object, path: Path, stored: Optional[Stored]) -> None:
+    def answer_number(self, number: int, node: Node, path: Path, stored: Optional[Stored]) -> None:
         """Makes the last answer a number, which a variable is given; a spare one, if none is."""
         if stored is None and path.state.answers == only(number):
             return
@@ -165,19 +167,19 @@ class Memory(Loops):
     def can_mark(self) -> bool:
         return self.has_variables and not self.is_handler
 
-    def mark_way(self, node: object, path: Path, is_return: bool) -> None:
+    def mark_way(self, node: Node, path: Path, is_return: bool) -> None:
         number = self.marks[node][not is_return] if node in self.marks else None
         if number is not None and not path.is_over:
             self.answer_number(number, node, path, None)
 
-    def read_global(self, node: object, path: Path) -> Known:
+    def read_global(self, node: Node, path: Path) -> Known:
         why = self.unit.fields.why_not(node.name) if self.is_variable(node.name) else None
         if why is not None:
             return lost(INT, why)
         stored = self.stored_global(node)
         return super().read_global(node, path) if stored is None else self.load(stored, node, path)
 
-    def stored_global(self, node: object) -> Optional[Stored]:
+    def stored_global(self, node: Node) -> Optional[Stored]:
         """The variable of a global; None if it is none."""
         declaration = self.unit.globals.get(getattr(node, "name", None)) if self.has_variables else None
         type_ = self.unit.constants.type_of(declaration) if declaration is not None else None
@@ -189,7 +191,7 @@ class Memory(Loops):
             self.note(node, f"`{node.name}` isn't known at reset, where it is 0 here: in line {why.place.line} {why.why}", True)
         return self.variable(GLOBAL + node.name, type_, (initial.constant() or 0) if isinstance(initial, Value) else 0)
 
-    def write_global(self, target: object, value: Value, node: object, path: Path) -> Known:
+    def write_global(self, target: Node, value: Value, node: Node, path: Path) -> Known:
         if self.is_variable(target.name) and self.unit.fields.why_not(target.name) is not None:
             self.note(target, f"`{target.name}` isn't followed: this write is left out")
             return value
@@ -203,7 +205,7 @@ class Memory(Loops):
         self.store(stored, self.fitted(value, stored.type, node, path), node, path)
         return the_answer(stored.type, path.state.answers)
 
-    def put(self, key: str, value: Known, node: object, path: Path) -> None:
+    def put(self, key: str, value: Known, node: Node, path: Path) -> None:
         """Keeps a value under this key: a variable if the last answer doesn't keep it."""
         if key not in self.in_memory or not isinstance(value, Value):
             return super().put(key, value, node, path)
@@ -217,17 +219,17 @@ class Memory(Loops):
         path.state = path.state.with_local(key, stored)
         return None
 
-    def put_lost(self, key: str, value: Value, why: Lost, node: object, path: Path) -> None:
+    def put_lost(self, key: str, value: Value, why: Lost, node: Node, path: Path) -> None:
         """A value that isn't known: it may be known in a variable the next time."""
         if why.local is not None:
             raise LostUse(self.place(node), why)
         return super().put(key, value, node, path)
 
-    def read_local(self, key: str, node: object, path: Path) -> Known:
+    def read_local(self, key: str, node: Node, path: Path) -> Known:
         found = super().read_local(key, node, path)
         return self.load(found, node, path) if isinstance(found, Stored) else found
 
-    def taken(self, key: str, path: Path, node: Optional[object] = None) -> Known:
+    def taken(self, key: str, path: Path, node: MaybeNode = None) -> Known:
         found = super().taken(key, path)
         return self.load(found, node, path) if isinstance(found, Stored) and node is not None else found
 
@@ -235,7 +237,7 @@ class Memory(Loops):
         found = path.state.locals.get(key)
         return the_answer(found.type, path.state.answers) if isinstance(found, Stored) else value
 
-    def static(self, node: object, type_: Integer, path: Path) -> None:
+    def static(self, node: Node, type_: Integer, path: Path) -> None:
         """A static local is a variable of its function."""
         if not self.has_variables:
             return super().static(node, type_, path)
@@ -252,7 +254,7 @@ class Memory(Loops):
         path.state = path.state.with_local(key, stored)
         return None
 
-    def operand(self, node: object, path: Path) -> Known:
+    def operand(self, node: Node, path: Path) -> Known:
         """An operand of arithmetic: a variable is left where it is, since an op can name it."""
         inner = trees.plain(node)
         if inner is not node or trees.kind(inner) != "ID" or not self.has_variables:
@@ -261,19 +263,19 @@ class Memory(Loops):
         found = path.state.locals.get(key) if key is not None else self.stored_global(inner) if self.is_global(inner) else None
         return self.there(found, node, path) if isinstance(found, Stored) else self.evaluate(node, path)
 
-    def there(self, stored: Stored, node: object, path: Path) -> Stored:
-        """A variable that has what its local is in C, whatever was answered."""
+    def there(self, stored: Stored, node: Node, path: Path) -> Stored:
+        """A variable that has what its local is in C, whatever the last answer is."""
         found = stored.among(path.state.answers)
         if found.missing is not None:
             raise LostUse(self.place(node), found.missing)
         return found
 
-    def is_global(self, node: object) -> bool:
+    def is_global(self, node: Node) -> bool:
         return node.name in self.unit.globals and node.name not in self.unit.constants.numbers
 
     # -- arithmetic
 
-    def arithmetic(self, node: object, left: Known, right: Known, path: Path) -> Value:
+    def arithmetic(self, node: Node, left: Known, right: Known, path: Path) -> Value:
         if not self.has_variables:
             return super().arithmetic(node, left, right, path)
         left, right = steady(left), steady(right)
@@ -289,12 +291,12 @@ class Memory(Loops):
             return lost(INT if node.op in COMPARISONS else common(left.type, right.type), why)
         return self.compared(node, left, right, path) if node.op in COMPARISONS else self.computed(node, left, right, path)
 
-    def loaded_if_alone(self, value: Known, other: Known, node: object, path: Path) -> Known:
+    def loaded_if_alone(self, value: Known, other: Known, node: Node, path: Path) -> Known:
         """A variable beside a constant is loaded; beside another value it stays, so that both are known at once."""
         is_alone = isinstance(value, Stored) and isinstance(other, Value) and other.constant() is not None
         return self.load(value, node, path) if is_alone else value
 
-    def computed(self, node: object, left: Known, right: Known, path: Path) -> Value:
+    def computed(self, node: Node, left: Known, right: Known, path: Path) -> Value:
         operator = node.op
         if operator in ("<<", ">>"):
             return self.shift(node, left, right, path)
@@ -314,7 +316,7 @@ class Memory(Loops):
         self.op(f"{OPS[operator]} {right.name if isinstance(right, Stored) else by}", node, path)
         return self.is_answered(results(operator, by), type_, node, path)
 
-    def check_bits(self, operator: str, left: Known, right: Known, type_: Integer, node: object, path: Path) -> None:
+    def check_bits(self, operator: str, left: Known, right: Known, type_: Integer, node: Node, path: Path) -> None:
         """Refuses what C computes with 64 bits, unless all numbers of it surely have 32 bits and no sign."""
         if type_.bits <= UNSIGNED.bits:
             return
@@ -325,7 +327,7 @@ class Memory(Loops):
         if lowest < 0 or max(high, most, highest) > (INT.greatest if is_signed else GREATEST):
             raise self.too_large(node)
 
-    def of_BinaryOp(self, node: object, path: Path) -> Known:
+    def of_BinaryOp(self, node: Node, path: Path) -> Known:
         """What is multiplied with 64 bits and divided by the same number is as before, as `pdMS_TO_TICKS` has it."""
         product = trees.plain(node.left)
         numbers = [self.unit.constants.value(it.right) if trees.kind(it) == "BinaryOp" else None for it in (node, product)]
@@ -337,19 +339,19 @@ class Memory(Loops):
             return super().arithmetic(node, value, constant(1), path)
         return super().of_BinaryOp(node, path)
 
-    def bring(self, value: Known, node: object, path: Path) -> None:
+    def bring(self, value: Known, node: Node, path: Path) -> None:
         """Makes a value the last answer."""
         if isinstance(value, Stored):
             self.load(value, node, path)
         else:
             self.to_answer(value, node, path)
 
-    def set_aside(self, name: str, value: Known, node: object, path: Path) -> Stored:
+    def set_aside(self, name: str, value: Known, node: Node, path: Path) -> Stored:
         stored = self.variable(f"{name}@{self.spot(node)}", value.type)
         self.store(stored, value, node, path)
         return stored
 
-    def shift(self, node: object, left: Known, right: Known, path: Path) -> Value:
+    def shift(self, node: Node, left: Known, right: Known, path: Path) -> Value:
         number = right.constant() if isinstance(right, Value) else None
         type_ = promoted(left.type)
         if number is None or not 0 <= number < 32 or node.op == ">>" and left.type.is_signed:
@@ -359,7 +361,7 @@ class Memory(Loops):
         self.op(f"{'mul' if node.op == '<<' else 'div'} {1 << number}", node, path)
         return self.is_answered(NUMBERS, type_, node, path)
 
-    def signed_division(self, node: object, left: Known, number: Optional[int], path: Path) -> Value:
+    def signed_division(self, node: Node, left: Known, number: Optional[int], path: Path) -> Value:
         """A division by a positive constant, rounded toward 0."""
         if number is None or number <= 0:
             raise self.refuse(node, "a division of signed numbers by what is no positive constant has no op", "unsigned types")
@@ -375,10 +377,10 @@ class Memory(Loops):
             self.is_answered(results(node.op, number) & answers((0, SIGN - 1)), INT, node, fork)
         wanted = answers((SIGN, GREATEST))
         self.meet(path, lambda end: self.branch(
-            path, wanted, lambda fork: (negative(fork), end(fork)), lambda fork: (positive(fork), end(fork)), node))
+            path, wanted, both(negative, end), both(positive, end), node))
         return the_answer(INT, path.state.answers)
 
-    def compared(self, node: object, left: Known, right: Known, path: Path) -> Value:
+    def compared(self, node: Node, left: Known, right: Known, path: Path) -> Value:
         """A comparison of two values that aren't constant: 1 or 0 as the last answer; of a condition what that asks for."""
         operator = node.op
         self.check_bits(operator, left, right, common(left.type, right.type), node, path)
@@ -402,7 +404,7 @@ class Memory(Loops):
         path.items.append(If(condition.format(right.name), *ways, place))
         return self.is_answered(only(0, 1), INT, node, path)
 
-    def biased(self, name: str, value: Known, is_signed: bool, node: object, path: Path, other: Optional[Known]) -> Stored:
+    def biased(self, name: str, value: Known, is_signed: bool, node: Node, path: Path, other: Optional[Known]) -> Stored:
         """A value in a variable, for a comparison as of unsigned numbers; the other one is set aside first if this would take it."""
         if other is not None:
             self.left_of_two = other
@@ -415,21 +417,21 @@ class Memory(Loops):
             self.is_answered(NUMBERS, UNSIGNED, node, path)
         return self.set_aside(name, the_answer(UNSIGNED, path.state.answers), node, path)
 
-    def both_aside(self, left: Value, right: Known, node: object, path: Path) -> Stored:
+    def both_aside(self, left: Value, right: Known, node: Node, path: Path) -> Stored:
         """Two values of one answer, each in a variable: the answer itself is set aside for the second."""
         if isinstance(right, Stored):
             self.right_of_two = right
             return self.set_aside("first", left, node, path)
         raise self.refuse(node, "a comparison of two values of one answer has no op", "a local for one of them")
 
-    def unary(self, node: object, value: Value, path: Path) -> Value:
+    def unary(self, node: Node, value: Value, path: Path) -> Value:
         if self.has_variables and node.op == "~":
             return self.arithmetic(Written("^", node), value, constant(-1), path)
         if self.has_variables and node.op == "-":
             return self.arithmetic(Written("*", node), value, constant(-1), path)
         return super().unary(node, value, path)
 
-    def fitted(self, value: Value, type_: Integer, node: object, path: Path) -> Value:
+    def fitted(self, value: Value, type_: Integer, node: Node, path: Path) -> Value:
         """The value as its type keeps it: what is too large loses its upper bits."""
         found = converted(value, type_)
         before = value.among(path.state.answers).lost()
@@ -447,20 +449,20 @@ class Memory(Loops):
 
     # -- items and marks
 
-    def number_or_answer(self, value: Known, argument: Argument, node: object, path: Path) -> str:
+    def number_or_answer(self, value: Known, argument: Argument, node: Node, path: Path) -> str:
         if not self.has_variables or isinstance(value, Value) and value.among(path.state.answers).constant() is not None:
             return super().number_or_answer(value, argument, node, path)
         self.bring(self.integer(value, node), node, path)
         return "answer"
 
-    def item_of_answer(self, value: Value, queue: Handle, node: object, path: Path) -> str:
+    def item_of_answer(self, value: Value, queue: Handle, node: Node, path: Path) -> str:
         if not self.has_variables:
             return super().item_of_answer(value, queue, node, path)
         self.to_answer(value, node, path)
         self.unit.with_large_items.add(queue.name)
         return "answer"
 
-    def keep_received(self, key: str, missing: Piece, node: object, path: Path) -> None:
+    def keep_received(self, key: str, missing: Piece, node: Node, path: Path) -> None:
         """Puts what was received into a variable, unless nothing was. After a wait for a notification the variable is then not what
         the local is in C, so it isn't known as long as the last answer may be `none`."""
         if key not in self.in_memory:
@@ -470,7 +472,7 @@ class Memory(Loops):
 
         def keep(fork: Path) -> None:
             self.op(f"store {stored.name} answer", node, fork)
-        self.meet(path, lambda end: self.branch(path, NUMBERS, lambda fork: (keep(fork), end(fork)), end, node))
+        self.meet(path, lambda end: self.branch(path, NUMBERS, both(keep, end), end, node))
         path.state = path.state.with_local(key, stored if keeps else replace(stored, missing=missing.lost))
         return None
 
@@ -501,7 +503,7 @@ def results(operator: str, number: Optional[int]) -> Answers:
 
 
 def cut_alike(parts: Iterable[Tuple[str, int]], type_: Integer) -> bool:
-    """Whether these parts of a value are the last answer and a number, of which an unsigned type keeps the same bits."""
+    """Whether these parts of a value are the last answer and a number, and an unsigned type keeps the same bits of them."""
     is_small = not type_.is_signed and 1 < type_.bits < UNSIGNED.bits
     return is_small and all(kind == ANSWER for kind, _ in parts) and len({number % (1 << type_.bits) for _, number in parts}) == 1
 

@@ -3,7 +3,7 @@ import re
 from typing import Dict, Set, Tuple
 
 MOST = 16
-# Words that a script reads as something else where a variable or a condition may come.
+# Words that a script reads as something else in the place of a variable or a condition.
 WORDS = ("none", "not", "below", "above", "answer", "forever")
 
 

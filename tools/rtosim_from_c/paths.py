@@ -26,7 +26,7 @@ class State:
         return State(self.answers & known, self.locals, self.stamp, self.sections)
 
     def answered(self, answers: Answers, by: str, at: Place) -> "State":
-        """After a call at this place that answers one of these; what is never reached stays so."""
+        """After a call at this place that returns one of these; what is never reached stays so."""
         if not self.answers:
             return self
         kept = {name: after_an_answer(it, self.answers, name, by, at) for name, it in self.locals.items()}
@@ -46,7 +46,7 @@ class State:
 
 
 def merged(states: Iterable[State]) -> Optional[State]:
-    """What is known where these ways come together; None if there is none."""
+    """What is known when these ways come together; None if there is none."""
     found: Optional[State] = None
     for it in states:
         found = it if found is None else merged_two(found, it)
@@ -89,7 +89,7 @@ def is_same(first: State, second: State) -> bool:
 class Path:
     """The ops so far and the state after them. It is over when it has no answers any more: what comes then is never reached."""
 
-    def __init__(self, state: State, items: Optional[List[Item]] = None):
+    def __init__(self, state: State, items: Optional[List[Item]] = None) -> None:
         self.state = state
         self.items: List[Item] = [] if items is None else items
 

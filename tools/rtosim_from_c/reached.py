@@ -8,6 +8,7 @@ from .directives import Directives
 from .integers import Integer
 from .refusals import Place
 from .static_types import DeclarationOf, PointerTo, StaticTypes
+from .trees import MaybeNode, Node
 
 if TYPE_CHECKING:
     from .arrays import Arrays
@@ -18,9 +19,9 @@ if TYPE_CHECKING:
 class Reached:
     """Questions about the functions of a file."""
 
-    functions: Dict[str, object]
-    globals: Dict[str, object]
-    prototypes: Dict[str, object]
+    functions: Dict[str, Node]
+    globals: Dict[str, Node]
+    prototypes: Dict[str, Node]
     constants: Constants
     directives: Directives
     types: StaticTypes
@@ -32,7 +33,7 @@ class Reached:
     # the handles that tasks and handlers give other values, once these are asked for
     changing: Optional[Dict[str, FrozenSet[str]]] = None
 
-    def place(self, node: object) -> Place:
+    def place(self, node: Node) -> Place:
         raise NotImplementedError
 
     # -- what is read, and which functions call which
@@ -49,7 +50,7 @@ class Reached:
                 written.add(id(it.expr))
         return {it.name for it in self.nodes() if trees.kind(it) == "ID" and id(it) not in written}
 
-    def nodes(self) -> Iterator[object]:
+    def nodes(self) -> Iterator[Node]:
         return (it for function in self.functions.values() for it in trees.walk(function))
 
     def reached(self, roots: Sequence[str]) -> List[str]:
@@ -103,7 +104,7 @@ class Reached:
 
     # -- what a call may change
 
-    def keeps(self, call: object, at: int) -> bool:
+    def keeps(self, call: Node, at: int) -> bool:
         """Whether a call leaves as it is what its argument at this place leads to: it says so by `const`, it is followed, or it is given
         a function of the file too, for which it keeps the argument."""
         name, words = trees.called(call), trees.arguments(call)
@@ -117,7 +118,7 @@ class Reached:
         pointed = getattr(found[0], "type", None) if found else None
         return points_to_const(pointed)
 
-    def fills(self, declaration: object, size: object, declaration_of: DeclarationOf) -> bool:
+    def fills(self, declaration: Node, size: Node, declaration_of: DeclarationOf) -> bool:
         """Whether this many bytes are all of what is declared so."""
         if trees.kind(size) == "UnaryOp" and size.op == "sizeof":
             inner = size.expr
@@ -145,12 +146,12 @@ class Reached:
         others = {it.name for it in trees.parameters_of(definition)} - {parameter.name}
         return any(name not in others for name in filter(None, map(trees.written_through, nodes)))
 
-    def is_zero(self, node: object, given: Sequence[object]) -> bool:
+    def is_zero(self, node: Node, given: Sequence[Node]) -> bool:
         """Whether a value of an initializer is the 0 of `{ 0 }`, which stands for all that there is."""
         value = self.constants.value(node) if len(given) == 1 else None
         return value is not None and value.constant() == 0
 
 
-def points_to_const(type_: Optional[object]) -> bool:
+def points_to_const(type_: MaybeNode) -> bool:
     """Whether a pointer of this type changes nothing of what it leads to."""
     return trees.kind(type_) == "PtrDecl" and "const" in (getattr(type_.type, "quals", None) or [])

@@ -16,13 +16,13 @@ class Place:
 class Refusal(Exception):
     """A construct that has no op: what it is, and what to write in its place."""
 
-    def __init__(self, place: Optional[Place], what: str, instead: str = ""):
+    def __init__(self, place: Optional[Place], what: str, instead: str = "") -> None:
         super().__init__(what)
         self.place, self.what, self.instead = place, what, instead
 
 
 class SeveralRefusals(Exception):
-    def __init__(self, refusals: List[Refusal]):
+    def __init__(self, refusals: List[Refusal]) -> None:
         super().__init__(str(len(refusals)))
         self.refusals = refusals
 
@@ -30,7 +30,7 @@ class SeveralRefusals(Exception):
 @dataclass(frozen=True)
 class Lost:
     """Why a value isn't known at a place: the local that had it, if there is one, and where another call's answer took it. `array` is the
-    one of which it is an element, if its elements may be followed."""
+    array that it is an element of, if its elements may be followed."""
 
     why: str
     local: Optional[str] = None
@@ -42,7 +42,7 @@ class Lost:
 class LostUse(Refusal):
     """A value decides something, and isn't known."""
 
-    def __init__(self, place: Optional[Place], lost: Lost):
+    def __init__(self, place: Optional[Place], lost: Lost) -> None:
         super().__init__(place, lost.why, lost.instead)
         self.lost = lost
 

@@ -6,6 +6,7 @@ from .addresses import SOMEWHERE
 from .elements import Elements
 from .integers import Integer
 from .paths import Path
+from .trees import Node
 from .unit import GLOBAL, STUB
 from .values import Address, Known, Reference, Stored, Value, the_answer
 
@@ -27,16 +28,16 @@ class Registers(Elements):
         initial = self.unit.reset.value(where.name)
         return self.variable(GLOBAL + where.name[len(STUB):], type_, (initial.constant() or 0) if isinstance(initial, Value) else 0)
 
-    def whole(self, node: object, path: Path) -> Union[Address, Reference]:
+    def whole(self, node: Node, path: Path) -> Union[Address, Reference]:
         found = super().whole(node, path)
         is_beside = trees.kind(node) == "ArrayRef" and self.register(found) is not None
         return Address(SOMEWHERE) if is_beside else found
 
-    def content(self, where: Union[Address, Reference], node: object, path: Path) -> Known:
+    def content(self, where: Union[Address, Reference], node: Node, path: Path) -> Known:
         stored = self.register(where)
         return super().content(where, node, path) if stored is None else self.load(stored, node, path)
 
-    def write_there(self, where: Union[Address, Reference], value: Known, node: object, path: Path) -> Known:
+    def write_there(self, where: Union[Address, Reference], value: Known, node: Node, path: Path) -> Known:
         stored = self.register(where)
         if stored is None:
             return super().write_there(where, value, node, path)

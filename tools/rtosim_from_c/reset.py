@@ -8,7 +8,8 @@ from .calls import COPIES, CREATORS, SETUP, TASK_CREATORS
 from .cells import Called, Cells, Content
 from .constants import POINTER, literal, numeral
 from .integers import WRITTEN, Integer
-from .values import Address, Handle, Value, binary, constant, converted, unary
+from .trees import MaybeNode, Node
+from .values import Address, Handle, Value, binary, constant, converted, known, unary
 
 if TYPE_CHECKING:
     from .unit import Unit
@@ -26,7 +27,7 @@ class Started(Exception):
 class Left(Exception):
     """A loop or a `switch` is left, or a turn of a loop."""
 
-    def __init__(self, is_turn: bool):
+    def __init__(self, is_turn: bool) -> None:
         super().__init__()
         self.is_turn = is_turn
 
@@ -34,7 +35,7 @@ class Left(Exception):
 class Jumped(Exception):
     """A `goto` leads to this label."""
 
-    def __init__(self, label: str):
+    def __init__(self, label: str) -> None:
         super().__init__()
         self.label = label
 
@@ -42,7 +43,7 @@ class Jumped(Exception):
 class Returned(Exception):
     """A function has returned this."""
 
-    def __init__(self, value: Optional[Content]):
+    def __init__(self, value: Optional[Content]) -> None:
         super().__init__()
         self.value = value
 
@@ -50,7 +51,7 @@ class Returned(Exception):
 class Reset(Cells):
     """Follows what gives cells their values."""
 
-    def __init__(self, unit: "Unit"):
+    def __init__(self, unit: "Unit") -> None:
         super().__init__(unit)
         self.steps = self.calls = self.depth = 0
         # what was created last: the call, and its arguments
@@ -77,7 +78,7 @@ class Reset(Cells):
     # -- statements
 
     def follow(self, function: str, values: List[Optional[Content]], caller: Called,
-               arguments: Optional[List[object]] = None) -> Optional[Content]:
+               arguments: Optional[List[Node]] = None) -> Optional[Content]:
         """Follows a call, and returns what the function does."""
         definition = self.unit.functions[function]
         if self.depth >= MOST_DEPTH:
@@ -98,13 +99,13 @@ class Reset(Cells):
             self.depth -= 1
         return None
 
-    def declare(self, node: object, called: Called) -> str:
+    def declare(self, node: Node, called: Called) -> str:
         name = f"{node.name}@{called.function}" if "static" in (node.storage or []) else f"{node.name}@{called.number}"
         called.names[node.name] = name
         self.declared[name] = node
         return name
 
-    def execute(self, node: object, called: Called) -> None:
+    def execute(self, node: Node, called: Called) -> None:
         """One statement."""
         self.steps += 1
         if node is None:
@@ -117,15 +118,15 @@ class Reset(Cells):
         elif trees.kind(node) not in ("Pragma", "EmptyStatement", "Typedef"):
             self.evaluate(node, called)
 
-    def perhaps(self, nodes: List[object], called: Called) -> None:
-        """Statements of which isn't known whether they are reached. A jump in them makes what follows as little known."""
+    def perhaps(self, nodes: List[Node], called: Called) -> None:
+        """Statements that are perhaps not reached. After a jump in them it isn't known either whether what follows is reached."""
         before, called.is_sure = called.is_sure, False
         for it in nodes:
             self.execute(it, called)
         jumps = {one for it in nodes if it is not None for one in trees.escapes(it)} - {"return"}
         called.is_sure = before and not jumps
 
-    def do_Compound(self, node: object, called: Called) -> None:
+    def do_Compound(self, node: Node, called: Called) -> None:
         names, items, at = dict(called.names), node.block_items or [], 0
         while at < len(items):
             try:
@@ -138,23 +139,23 @@ class Reset(Cells):
             at += 1
         called.names = names
 
-    def do_Break(self, node: object, called: Called) -> None:
+    def do_Break(self, node: Node, called: Called) -> None:
         if called.is_sure:
             raise Left(False)
 
-    def do_Continue(self, node: object, called: Called) -> None:
+    def do_Continue(self, node: Node, called: Called) -> None:
         if called.is_sure:
             raise Left(True)
 
-    def do_Goto(self, node: object, called: Called) -> None:
+    def do_Goto(self, node: Node, called: Called) -> None:
         if called.is_sure:
             raise Jumped(node.name)
 
-    def do_DeclList(self, node: object, called: Called) -> None:
+    def do_DeclList(self, node: Node, called: Called) -> None:
         for it in node.decls:
             self.do_Decl(it, called)
 
-    def do_Decl(self, node: object, called: Called) -> None:
+    def do_Decl(self, node: Node, called: Called) -> None:
         if node.name is None or trees.kind(node.type) == "FuncDecl":
             return
         name = self.declare(node, called)
@@ -167,26 +168,26 @@ class Reset(Cells):
         else:
             self.assign(name, node.init, node, called)
 
-    def do_If(self, node: object, called: Called) -> None:
+    def do_If(self, node: Node, called: Called) -> None:
         which = self.truth(node.cond, called)
         if which is None:
             self.perhaps([node.iftrue, node.iffalse], called)
         else:
             self.execute(node.iftrue if which else node.iffalse, called)
 
-    def do_While(self, node: object, called: Called) -> None:
+    def do_While(self, node: Node, called: Called) -> None:
         self.loop(node, called, True)
 
-    def do_DoWhile(self, node: object, called: Called) -> None:
+    def do_DoWhile(self, node: Node, called: Called) -> None:
         self.loop(node, called, False)
 
-    def do_For(self, node: object, called: Called) -> None:
+    def do_For(self, node: Node, called: Called) -> None:
         names = dict(called.names)
         self.execute(node.init, called)
         self.loop(node, called, True)
         called.names = names
 
-    def loop(self, node: object, called: Called, is_asked: bool) -> None:
+    def loop(self, node: Node, called: Called, is_asked: bool) -> None:
         """The turns of a loop, if its condition says how many they are."""
         before = called.is_sure
         try:
@@ -204,10 +205,10 @@ class Reset(Cells):
         finally:
             called.is_sure = before and ("goto" not in trees.escapes(node) or called.is_sure)
 
-    def asked(self, node: object, called: Called) -> Optional[bool]:
+    def asked(self, node: Node, called: Called) -> Optional[bool]:
         return self.truth(node.cond, called) if getattr(node, "cond", None) is not None else True
 
-    def turn(self, node: object, called: Called) -> None:
+    def turn(self, node: Node, called: Called) -> None:
         try:
             self.execute(node.stmt, called)
         except Left as left:
@@ -215,7 +216,7 @@ class Reset(Cells):
                 raise
         self.execute(getattr(node, "next", None), called)
 
-    def do_Switch(self, node: object, called: Called) -> None:
+    def do_Switch(self, node: Node, called: Called) -> None:
         which, before, names = self.evaluate(node.cond, called), called.is_sure, dict(called.names)
         parts = list(trees.cut_at_labels(trees.statements_of(node)))
         values = [self.unit.constants.value(it.expr) if trees.kind(it) == "Case" else None for it in parts]
@@ -238,31 +239,31 @@ class Reset(Cells):
             called.is_sure = before and (not trees.escapes(node) - {"return"} or called.is_sure)
             called.names = names
 
-    def do_Label(self, node: object, called: Called) -> None:
+    def do_Label(self, node: Node, called: Called) -> None:
         self.execute(node.stmt, called)
 
-    def do_Return(self, node: object, called: Called) -> None:
+    def do_Return(self, node: Node, called: Called) -> None:
         value = self.evaluate(node.expr, called) if node.expr is not None else None
         if called.is_sure:
             raise Returned(value)
 
     # -- expressions
 
-    def truth(self, node: object, called: Called) -> Optional[bool]:
+    def truth(self, node: Node, called: Called) -> Optional[bool]:
         found = self.evaluate(node, called)
         if isinstance(found, (Handle, Address)):
             return True
         return None if found is None else bool(found.constant())
 
-    def evaluate(self, node: object, called: Called) -> Optional[Content]:
+    def evaluate(self, node: Node, called: Called) -> Optional[Content]:
         """What an expression is; None if that isn't known."""
         method = getattr(self, f"of_{trees.kind(node)}", None)
         return method(node, called) if method is not None else None
 
-    def of_Constant(self, node: object, _: Called) -> Optional[Content]:
+    def of_Constant(self, node: Node, _: Called) -> Optional[Content]:
         return None if node.value.startswith('"') else literal(node)
 
-    def of_ID(self, node: object, called: Called) -> Optional[Content]:
+    def of_ID(self, node: Node, called: Called) -> Optional[Content]:
         if node.name not in called.names and node.name in self.unit.constants.numbers:
             return self.unit.constants.numbers[node.name]
         name = self.place(node, called)
@@ -274,13 +275,13 @@ class Reset(Cells):
             return None
         return self.value(name) if name in self.cells else self.unit.handles.get((called.function, name.split("@")[0])) or self.value(name)
 
-    def of_Cast(self, node: object, called: Called) -> Optional[Content]:
+    def of_Cast(self, node: Node, called: Called) -> Optional[Content]:
         found, type_ = self.evaluate(node.expr, called), self.unit.constants.type_of(node.to_type)
         if not isinstance(found, Value):
             return found
         return converted(found, type_ if isinstance(type_, Integer) else POINTER)
 
-    def of_UnaryOp(self, node: object, called: Called) -> Optional[Content]:
+    def of_UnaryOp(self, node: Node, called: Called) -> Optional[Content]:
         if node.op == "&":
             name = self.place(node.expr, called)
             return Address(name) if name is not None else None
@@ -297,7 +298,7 @@ class Reset(Cells):
             return constant(0) if node.op == "!" else None
         return known(unary(node.op, inner, ALL)) if inner is not None else None
 
-    def of_BinaryOp(self, node: object, called: Called) -> Optional[Content]:
+    def of_BinaryOp(self, node: Node, called: Called) -> Optional[Content]:
         if node.op in ("&&", "||"):
             return self.logical(node, called)
         left, right = self.evaluate(node.left, called), self.evaluate(node.right, called)
@@ -309,7 +310,7 @@ class Reset(Cells):
             return None
         return constant(int((left == right) == (node.op == "==")))
 
-    def logical(self, node: object, called: Called) -> Optional[Content]:
+    def logical(self, node: Node, called: Called) -> Optional[Content]:
         first = self.truth(node.left, called)
         if first is not None and first == (node.op == "||"):
             return constant(int(first))
@@ -318,21 +319,21 @@ class Reset(Cells):
         called.is_sure = before
         return None if first is None or second is None else constant(int(second))
 
-    def of_TernaryOp(self, node: object, called: Called) -> Optional[Content]:
+    def of_TernaryOp(self, node: Node, called: Called) -> Optional[Content]:
         which = self.truth(node.cond, called)
         return None if which is None else self.evaluate(node.iftrue if which else node.iffalse, called)
 
-    def of_ExprList(self, node: object, called: Called) -> Optional[Content]:
+    def of_ExprList(self, node: Node, called: Called) -> Optional[Content]:
         return [self.evaluate(it, called) for it in node.exprs][-1]
 
-    def of_StructRef(self, node: object, called: Called) -> Optional[Content]:
+    def of_StructRef(self, node: Node, called: Called) -> Optional[Content]:
         name = self.place(node, called)
         type_ = self.unit.constants.type_of(self.declaration(name)) if name is not None and self.declaration(name) is not None else ""
         return Address(name) if name is not None and type_ in ("a structure", "an array") else self.read(name, called)
 
     of_ArrayRef = of_StructRef
 
-    def of_Assignment(self, node: object, called: Called) -> Optional[Content]:
+    def of_Assignment(self, node: Node, called: Called) -> Optional[Content]:
         name = self.place(node.lvalue, called)
         if node.op == "=":
             if trees.kind(node.rvalue) == "CompoundLiteral" and name is not None and trees.kind(node.rvalue.init) == "InitList":
@@ -345,7 +346,7 @@ class Reset(Cells):
         self.write(name, value, node, called)
         return value
 
-    def assign(self, name: Optional[str], value: object, node: object, called: Called) -> Optional[Content]:
+    def assign(self, name: Optional[str], value: Node, node: Node, called: Called) -> Optional[Content]:
         """Gives a cell a value; if that is created here, it is the object of that name."""
         found = self.evaluate(value, called)
         creates = trees.called(trees.plain(value)) in CREATORS or found is None and trees.called(trees.plain(value)) in self.unit.functions
@@ -355,7 +356,7 @@ class Reset(Cells):
         self.write(name, found, node, called)
         return found
 
-    def place(self, node: object, called: Called) -> Optional[str]:
+    def place(self, node: Node, called: Called) -> Optional[str]:
         """The cell that is named; None if that isn't known."""
         name = trees.kind(node)
         if name == "ID":
@@ -377,7 +378,7 @@ class Reset(Cells):
 
     # -- calls
 
-    def of_FuncCall(self, node: object, called: Called) -> Optional[Content]:
+    def of_FuncCall(self, node: Node, called: Called) -> Optional[Content]:
         name, words = trees.called(node), trees.arguments(node)
         if name in STARTS and called.is_sure:
             raise Started()
@@ -411,7 +412,7 @@ class Reset(Cells):
                 self.unit.object(handle.name).numbers[key] = value.constant() or 0
         return handle
 
-    def create_task(self, node: object, values: List[Optional[Content]], called: Called) -> Optional[Content]:
+    def create_task(self, node: Node, values: List[Optional[Content]], called: Called) -> Optional[Content]:
         task = self.unit.task_of.get(id(node))
         if task is None:
             return None
@@ -424,14 +425,14 @@ class Reset(Cells):
             self.write(values[5].name, found, node, called)
         return constant(1)
 
-    def are_alike(self, places: List[Optional[Content]], words: List[object], called: Called) -> bool:
+    def are_alike(self, places: List[Optional[Content]], words: List[Node], called: Called) -> bool:
         """Whether a copy is of one whole structure to another."""
         declared = [self.declaration(getattr(it, "name", "")) for it in places[:2]]
         structures = [self.unit.constants.structure(it) for it in declared]
         fills = self.unit.fills(declared[0], words[2], lambda it: self.declared_as(it, called))
         return structures[0] is not None and structures[0] is structures[1] and fills
 
-    def declared_as(self, name: str, called: Called) -> Optional[object]:
+    def declared_as(self, name: str, called: Called) -> MaybeNode:
         """The declaration of what is named in a function."""
         return self.declaration(called.names[name]) if name in called.names else self.unit.globals.get(name)
 
@@ -439,7 +440,3 @@ class Reset(Cells):
 def is_same(value: Value, label: Value) -> bool:
     found = binary("==", value, label, ALL).constant()
     return found == 1
-
-
-def known(value: Value) -> Optional[Value]:
-    return value if value.constant() is not None else None

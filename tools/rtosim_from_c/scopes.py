@@ -2,22 +2,24 @@
 
 All later parts look names up by their text. So a local that hides another one, or a global that is no integer, is given a name of its own."""
 from collections import Counter
-from typing import Callable, Dict, List, Optional, Set
+from typing import Callable, Dict, List, Set
 
 from . import trees
 
-IsInteger = Callable[[object], bool]
+from .trees import MaybeNode, Node
+
+IsInteger = Callable[[Node], bool]
 BLOCKS = ("Compound", "For", "Switch")
 
 
 class Scopes:
     """The names of a file, while its functions are gone through."""
 
-    def __init__(self, tree: object, is_integer: IsInteger):
+    def __init__(self, tree: Node, is_integer: IsInteger) -> None:
         self.tree, self.is_integer = tree, is_integer
         self.taken: Set[str] = {it for node in trees.walk(tree) for it in names_in(node)}
         self.declared = Counter(it.name for it in trees.walk(tree) if trees.kind(it) == "Decl" and it.name)
-        self.globals: Dict[str, object] = {}
+        self.globals: Dict[str, Node] = {}
         # enumerators, and static locals of the function that is gone through
         self.constants: Set[str] = set()
         self.statics: Set[str] = set()
@@ -25,7 +27,7 @@ class Scopes:
         # what was given another name: what it is in C
         self.shown: Dict[str, str] = {}
         # static locals that are globals now
-        self.hoisted: List[object] = []
+        self.hoisted: List[Node] = []
 
     def run(self) -> None:
         for it in self.tree.ext:
@@ -36,7 +38,7 @@ class Scopes:
                 self.globals[it.name] = it
             self.constants |= {one.name for one in trees.walk(it) if trees.kind(one) == "Enumerator"}
 
-    def of_function(self, definition: object) -> None:
+    def of_function(self, definition: Node) -> None:
         self.function, self.statics = definition.decl.name, set()
         scope: Dict[str, str] = {}
         for it in trees.parameters_of(definition):
@@ -46,7 +48,7 @@ class Scopes:
 
     # -- declarations
 
-    def declare(self, node: object, scopes: List[Dict[str, str]]) -> None:
+    def declare(self, node: Node, scopes: List[Dict[str, str]]) -> None:
         """A local, by a name that no other one in sight has."""
         name = node.name
         is_static = "static" in (getattr(node, "storage", None) or [])
@@ -70,7 +72,7 @@ class Scopes:
         self.shown[found] = name
         return found
 
-    def enumerators(self, node: object, scopes: List[Dict[str, str]]) -> None:
+    def enumerators(self, node: Node, scopes: List[Dict[str, str]]) -> None:
         """The constants of an enumeration inside a function."""
         for it in trees.walk(node):
             if trees.kind(it) == "Enumerator":
@@ -84,22 +86,22 @@ class Scopes:
 
     # -- uses
 
-    def block(self, nodes: List[object], scopes: List[Dict[str, str]]) -> None:
+    def block(self, nodes: List[Node], scopes: List[Dict[str, str]]) -> None:
         for at, it in enumerate(nodes):
             self.uses(it, scopes)
             if trees.kind(it) == "Decl" and self.is_hoisted(it):
                 nodes[at] = self.hoist(it)
 
-    def is_hoisted(self, node: object) -> bool:
+    def is_hoisted(self, node: Node) -> bool:
         return bool(node.name) and "static" in (node.storage or []) and not self.is_integer(node) and trees.kind(node.type) != "FuncDecl"
 
-    def hoist(self, node: object) -> object:
+    def hoist(self, node: Node) -> Node:
         """A static local that is no integer is a global from here on."""
         self.hoisted.append(node)
         self.globals[node.name] = node
         return trees.nothing(node)
 
-    def uses(self, node: Optional[object], scopes: List[Dict[str, str]]) -> None:
+    def uses(self, node: MaybeNode, scopes: List[Dict[str, str]]) -> None:
         """Gives each name below a node the name of what it means."""
         name = trees.kind(node)
         if name == "ID":
@@ -120,14 +122,14 @@ class Scopes:
         elif name == "Compound":
             self.block(node.block_items or [], [*scopes, {}])
         elif name in BLOCKS:
-            inner = [*scopes, {}]
+            inner: List[Dict[str, str]] = [*scopes, {}]
             for it in trees.children(node):
                 self.uses(it, inner)
         elif node is not None:
             for it in trees.children(node):
                 self.uses(it, scopes)
 
-    def declaration(self, node: object, scopes: List[Dict[str, str]]) -> None:
+    def declaration(self, node: Node, scopes: List[Dict[str, str]]) -> None:
         """A declaration in a function: its name is in sight in what it begins with."""
         self.enumerators(node, scopes)
         for it in trees.walk(node.type):
@@ -141,7 +143,7 @@ class Scopes:
             self.uses(node.init, scopes)
 
 
-def rename_declaration(node: object, name: str) -> None:
+def rename_declaration(node: Node, name: str) -> None:
     """Gives what is declared this name."""
     node.name = name
     for it in trees.walk(node.type):
@@ -150,7 +152,7 @@ def rename_declaration(node: object, name: str) -> None:
             return
 
 
-def names_in(node: object) -> List[str]:
+def names_in(node: Node) -> List[str]:
     """The names that a node has itself."""
     found = getattr(node, "name", None)
     return [found] if isinstance(found, str) and found else []

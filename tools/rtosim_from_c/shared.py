@@ -9,14 +9,15 @@ from .arrays import shape
 from .calls import Argument, Call
 from .expressions import not_set
 from .fields import ONE_TARGET, Member
+from .frames import both
 from .integers import INT, Integer
 from .paths import Path
 from .refusals import Lost, LostUse, Refusal
 from .initializers import MOST_ELEMENTS
 from .structures import Structures, is_pointer
+from .trees import MaybeNode, Node
 from .unit import GLOBAL
-from .values import (ANSWER, NUMBER, Address, Handle, Known, Piece, Reference, Stored, Value, constant, joined, lost,
-                     the_answer)
+from .values import ANSWER, Address, Handle, Known, NUMBER, Piece, Reference, Stored, Value, constant, is_null, joined, lost, the_answer
 
 
 # An element that isn't known.
@@ -25,14 +26,14 @@ KNOWN_INDEX = "an index that is a constant, or that counts the turns of a loop"
 
 
 class Shared(Structures):
-    """Where a global structure is named, its address has the key of the global."""
+    """If a global structure is named, its address has the key of the global."""
 
     def opaque(self, name: str) -> Optional[Address]:
         found = super().opaque(name)
         is_local = self.frame.local(name) is not None
         return self.unit.followed(found) if found is not None and found.key is None and not is_local else found
 
-    def element(self, inner: Union[Address, Reference], index: Known, node: object, path: Path) -> Union[Address, Reference]:
+    def element(self, inner: Union[Address, Reference], index: Known, node: Node, path: Path) -> Union[Address, Reference]:
         found = super().element(inner, index, node, path)
         if not isinstance(inner, Address) or not isinstance(found, Address):
             return found
@@ -52,7 +53,7 @@ class Shared(Structures):
         is_table = declaration is not None and self.unit.constants.structure(trees.element(declaration)) is not None
         return self.unit.constants.length(declaration) if is_table else None
 
-    def of_ArrayRef(self, node: object, path: Path) -> Known:
+    def of_ArrayRef(self, node: Node, path: Path) -> Known:
         """A handle in an array, at an index that is known."""
         array = self.evaluate(node.name, path) if trees.kind(node.name) in ("ID", "StructRef") else None
         if not isinstance(array, Address) or not any(trees.is_element(it, array.name) for _, it in self.unit.handles):
@@ -64,8 +65,8 @@ class Shared(Structures):
             raise LostUse(self.place(node.subscript), Lost(why, instead="an index that is a constant, or a `switch`"))
         return self.handle_named(f"{array.name}[{number}]") or self.unknown(f"`{array.name}[{number}]` isn't known here")
 
-    def of_constants(self, array: Optional[Known], node: object, path: Path) -> Optional[Value]:
-        """An element of a constant array of integers, by an index of which it is known what it is for each last answer; None otherwise."""
+    def of_constants(self, array: Optional[Known], node: Node, path: Path) -> Optional[Value]:
+        """An element of a constant array of integers, by an index that is known for each last answer; None otherwise."""
         declaration = self.unit.reset.declaration(array.name) if isinstance(array, Address) and array.name in self.unit.globals else None
         type_ = self.unit.constants.type_of(trees.element(declaration)) if trees.element(declaration) is not None else None
         if self.frame.local(getattr(array, "name", "")) is not None or not isinstance(type_, Integer) or not trees.is_const(declaration):
@@ -83,7 +84,7 @@ class Shared(Structures):
                 found.append(Piece(low, high, NUMBER, value.constant() or 0))
         return Value(type_, joined(found))
 
-    def any_element(self, where: Known, node: object) -> None:
+    def any_element(self, where: Known, node: Node) -> None:
         """An element that isn't known may be changed: another form of the loop may say which it is; otherwise the array isn't followed."""
         if not isinstance(where, Address) or ANY not in where.name or not self.has_variables:
             return
@@ -110,7 +111,7 @@ class Shared(Structures):
         found = self.member_of_global(where)
         return self.variable(GLOBAL + where.name, found.type, found.initial) if isinstance(found, Member) else None
 
-    def content(self, where: Union[Address, Reference], node: object, path: Path) -> Known:
+    def content(self, where: Union[Address, Reference], node: Node, path: Path) -> Known:
         if not is_shared(where):
             is_any = isinstance(where, Address) and ANY in where.name
             return self.unknown(f"{shown(where)} isn't known here", KNOWN_INDEX) if is_any else super().content(where, node, path)
@@ -141,7 +142,7 @@ class Shared(Structures):
         kept = self.kept(name)
         return kept if isinstance(kept, Value) else found
 
-    def read_global(self, node: object, path: Path) -> Known:
+    def read_global(self, node: Node, path: Path) -> Known:
         found = self.kept(node.name) if not self.is_ignored(node) else None
         is_null = isinstance(found, Value) and found.constant() == 0
         type_ = self.unit.constants.type_of(self.unit.globals[node.name])
@@ -149,7 +150,7 @@ class Shared(Structures):
             return super().read_global(node, path)
         return found
 
-    def write_there(self, where: Union[Address, Reference], value: Known, node: object, path: Path) -> Known:
+    def write_there(self, where: Union[Address, Reference], value: Known, node: Node, path: Path) -> Known:
         if not is_shared(where):
             self.any_element(where, node)
             self.lose_behind(where, node)
@@ -166,7 +167,7 @@ class Shared(Structures):
         self.note(node, f"{shown(where)} isn't followed: this write is left out")
         return value
 
-    def write_member(self, where: Address, value: Known, node: object, path: Path) -> Known:
+    def write_member(self, where: Address, value: Known, node: Node, path: Path) -> Known:
         stored = self.variable_at(where)
         assert stored is not None
         number = self.unknown("an address as a number isn't known") if is_address(value) else self.integer(value, node)
@@ -179,7 +180,7 @@ class Shared(Structures):
         self.store(stored, self.fitted(number, stored.type, node, path), node, path)
         return the_answer(stored.type, path.state.answers)
 
-    def lose_behind(self, where: Union[Address, Reference], node: object) -> None:
+    def lose_behind(self, where: Union[Address, Reference], node: Node) -> None:
         """A write by a pointer that isn't followed: the members that it may lead to aren't followed any more."""
         target = getattr(node, "lvalue", None) or getattr(node, "expr", None)
         if not isinstance(where, Address) or where.key is not None or ANY in where.name or trees.root(where.name) not in (SOMEWHERE, *self.unit.globals):
@@ -197,7 +198,7 @@ class Shared(Structures):
         if is_new:
             raise Escaped()
 
-    def operand(self, node: object, path: Path) -> Known:
+    def operand(self, node: Node, path: Path) -> Known:
         inner = trees.plain(node)
         if inner is node and trees.kind(node) == "StructRef" and all(trees.kind(it) in ("StructRef", "ID") for it in trees.walk(node)):
             where = self.whole(node, path)
@@ -206,7 +207,7 @@ class Shared(Structures):
                 return stored
         return super().operand(node, path)
 
-    def pointer_arithmetic(self, node: object, left: Known, right: Known, path: Path) -> Known:
+    def pointer_arithmetic(self, node: Node, left: Known, right: Known, path: Path) -> Known:
         """Addresses of two structures are the same, or they aren't."""
         if node.op not in ("==", "!=") or not self.is_exact(left) or not self.is_exact(right):
             return super().pointer_arithmetic(node, left, right, path)
@@ -222,7 +223,7 @@ class Shared(Structures):
 
     # -- whole structures
 
-    def declaration(self, where: Address) -> Optional[object]:
+    def declaration(self, where: Address) -> MaybeNode:
         return self.unit.reset.declaration(where.name) if is_shared(where) else super().declaration(where)
 
     def field(self, where: Known) -> Optional[str]:
@@ -232,7 +233,7 @@ class Shared(Structures):
         """The members of a global structure that are no structures."""
         yield from (replace(where, name=it) for it in self.unit.reset.leaves(where.name))
 
-    def copy(self, where: Address, value: Known, node: object, path: Path) -> Known:
+    def copy(self, where: Address, value: Known, node: Node, path: Path) -> Known:
         if not is_shared(where):
             return super().copy(where, value, node, path)
         for it in self.leaves(where):
@@ -246,7 +247,7 @@ class Shared(Structures):
             self.write_there(it, found, node, path)
         return value
 
-    def keep_pointer(self, where: Address, source: Optional[Address], node: object, path: Path) -> None:
+    def keep_pointer(self, where: Address, source: Optional[Address], node: Node, path: Path) -> None:
         """A copy of a whole structure leaves its handles and pointers as they are, or it is refused."""
         if not is_pointer(self.unit.constants.type_of(self.unit.reset.declaration(where.name))):
             return
@@ -265,7 +266,7 @@ class Shared(Structures):
             else:
                 self.write_there(it, constant(0), self.declaration(it), path)
 
-    def item(self, value: Known, queue: Handle, node: object, path: Path) -> str:
+    def item(self, value: Known, queue: Handle, node: Node, path: Path) -> str:
         if not is_shared(value):
             return super().item(value, queue, node, path)
         member = self.carried_of_global(value)
@@ -283,7 +284,7 @@ class Shared(Structures):
         named = [it for it in members if it.name.split(".")[-1] in self.unit.directives.items]
         return (named or members or [None])[0]
 
-    def answered(self, call: Call, values: Dict[Argument, Known], texts: Dict[str, str], node: object, path: Path) -> Known:
+    def answered(self, call: Call, values: Dict[Argument, Known], texts: Dict[str, str], node: Node, path: Path) -> Known:
         for it in (values.get(Argument.WOKEN), values.get(Argument.WAKE_TIME)):
             why = f"what {call.function} gives `{it.name}` isn't known" if is_shared(it) else ""
             if why and self.unit.fields.unfollow(it.name, Lost(why, instead="a local for it")):
@@ -309,7 +310,7 @@ class Shared(Structures):
         def keep(fork: Path) -> None:
             self.op(f"store {stored.name} answer", node, fork)
         if stored is not None:
-            self.meet(path, lambda end: self.branch(path, NUMBERS, lambda fork: (keep(fork), end(fork)), end, node))
+            self.meet(path, lambda end: self.branch(path, NUMBERS, both(keep, end), end, node))
         return found
 
     # -- where addresses go
@@ -318,7 +319,7 @@ class Shared(Structures):
         if not is_shared(value):
             super().let_go(value)
 
-    def let_arguments_go(self, call: object, path: Path) -> None:
+    def let_arguments_go(self, call: Node, path: Path) -> None:
         super().let_arguments_go(call, path)
         for at, it in enumerate(trees.arguments(call)):
             where = self.address_of(it, path) if not self.unit.keeps(call, at) else None
@@ -331,11 +332,11 @@ class Shared(Structures):
             if self.unit.fields.unfollow(where.name, why):
                 raise Escaped()
 
-    def changes_globals(self, call: object, path: Path) -> bool:
+    def changes_globals(self, call: Node, path: Path) -> bool:
         words, name = trees.arguments(call), trees.called(call) or ""
         return any(self.unit.may_write(name, at) and is_shared(self.address_of(it, path)) for at, it in enumerate(words))
 
-    def let_parameters_go(self, call: object, path: Path) -> None:
+    def let_parameters_go(self, call: Node, path: Path) -> None:
         super().let_parameters_go(call, path)
         name, line = trees.called(call) or "", self.place(call).line
         for at, it in enumerate(trees.arguments(call)):
@@ -346,7 +347,7 @@ class Shared(Structures):
             if why is not None and self.unit.fields.unfollow(where.name, why):
                 raise Escaped()
 
-    def address_of(self, node: object, path: Path) -> Optional[Address]:
+    def address_of(self, node: Node, path: Path) -> Optional[Address]:
         """The address of a global structure, or of a part of it, that an argument is."""
         if trees.calls_in(node):
             return None
@@ -357,10 +358,6 @@ class Shared(Structures):
             found = None
         self.notes = notes
         return found if is_shared(found) or isinstance(found, Address) and ANY in found.name else None
-
-
-def is_null(value: Known) -> bool:
-    return isinstance(value, Value) and value.constant() == 0
 
 
 def is_shared(where: Optional[Known]) -> bool:

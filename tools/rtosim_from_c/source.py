@@ -8,9 +8,10 @@ from typing import Dict, List, Optional, Sequence
 from rtosim_report.faults import Fault
 
 from .refusals import Place, Refusal, SeveralRefusals
+from .trees import Node
 
 HEADERS = os.path.join(os.path.dirname(os.path.realpath(__file__)), "headers")
-# Texts and characters, so that a comment inside one isn't seen; comments, of which those for rtosim are kept.
+# Texts and characters, so that a comment inside one isn't seen; comments, from which those for rtosim are kept.
 PIECE = re.compile(r"""("(?:\\.|[^"\\\n])*"|'(?:\\.|[^'\\\n])*')|/\*(.*?)\*/|//([^\n]*)""", re.DOTALL)
 TOKEN = re.compile(r"""[A-Za-z_]\w*|\d[\w.]*|"(?:\\.|[^"\\])*"|'(?:\\.|[^'\\])*'|[-+<>&|=!]=|&&|\|\||<<|>>|\+\+|--|->|\S""")
 COMMENT_FOR_RTOSIM = re.compile(r"\s*rtosim:\s*(.*?)\s*", re.DOTALL)
@@ -72,7 +73,7 @@ class Lines:
                 file, number = re.sub(r"\\(.)", r"\1", marker[2]), int(marker[1])
                 continue
             if not line.startswith("#"):
-                # behind a pragma `cpp` begins the rest of a line anew, at its column
+                # after a pragma `cpp` begins the rest of a line anew, at its column
                 rest = line.lstrip()
                 indent = len(line) - len(rest)
                 before = self.preprocessed.get((file, number), "")
@@ -146,13 +147,14 @@ def refusal_of_cpp(said: str, missing: List[Refusal]) -> Exception:
         fault = CPP_FAULT.match(line)
         if fault:
             is_header = "No such file" in fault[4]
-            first = Refusal(Place(fault[1], int(fault[2]), int(fault[3])), f"cpp: {fault[4]}", NO_HEADER if is_header else "")
-            others = [it for it in missing if is_header and (it.place.file, it.place.line) != (first.place.file, first.place.line)]
+            place = Place(fault[1], int(fault[2]), int(fault[3]))
+            first = Refusal(place, f"cpp: {fault[4]}", NO_HEADER if is_header else "")
+            others = [it for it in missing if is_header and it.place and (it.place.file, it.place.line) != (place.file, place.line)]
             return SeveralRefusals([first, *others])
     return Fault(f"cpp: {said.strip() or 'it failed'}")
 
 
-def parser() -> object:
+def parser() -> Node:
     """A parser of C by pycparser."""
     try:
         from pycparser import CParser
@@ -161,7 +163,7 @@ def parser() -> object:
     return CParser()
 
 
-def parsed(text: str, name: str, lines: Lines) -> object:
+def parsed(text: str, name: str, lines: Lines) -> Node:
     """The tree of a preprocessed text."""
     one = parser()
     try:
@@ -211,7 +213,7 @@ def refusal_of_parser(said: str, name: str, lines: Lines, text: str) -> Refusal:
     return Refusal(place, f"no C that pycparser reads: {found[4]}", UNKNOWN_TYPE)
 
 
-def place_of(node: object, lines: Lines, calls: tuple = ()) -> Optional[Place]:
+def place_of(node: Node, lines: Lines, calls: tuple = ()) -> Optional[Place]:
     coord = getattr(node, "coord", None)
     if coord is None or not coord.line:
         return None

@@ -14,27 +14,28 @@ from .integers import COMPARISONS, Integer
 from .items import Break, Repeat, chosen, has_break
 from .paths import Path, merged
 from .refusals import LostUse, Place
+from .trees import MaybeNode, Node
 from .values import Known, Nothing, Value, constant
 
 AFTER_A_COMMENT = "/* rtosim: work 3 */ or /* rtosim: mark 3 */, after a statement"
 MOST_APART = 8
 HOLDS = ["rtosim", "holds"]
 TURNS = ["rtosim", "turns"]
-Cases = Tuple[List[List[object]], List[List[object]], Optional[int]]
+Cases = Tuple[List[List[Node]], List[List[Node]], Optional[int]]
 MIRRORED = {"==": "==", "!=": "!=", "<": ">", "<=": ">=", ">": "<", ">=": "<="}
 
 
 class Statements(Api):
     """The statements of a function, one after another."""
 
-    def statements(self, nodes: Sequence[object], path: Path, rest: Continuation) -> None:
+    def statements(self, nodes: Sequence[Node], path: Path, rest: Continuation) -> None:
         """These statements, and then the rest, on each of the ways that come there."""
         places = [at for at, it in enumerate(nodes) if trees.kind(it) == "Label"]
         if places:
             return self.with_labels(nodes, places, path, rest)
         return self.in_order(nodes, path, rest)
 
-    def with_labels(self, nodes: Sequence[object], places: List[int], path: Path, rest: Continuation) -> None:
+    def with_labels(self, nodes: Sequence[Node], places: List[int], path: Path, rest: Continuation) -> None:
         """Statements with labels: a `goto` to one that is ahead goes on with what comes from there."""
         labels, go = dict(self.frame.jumps.labels), rest
         cuts = [*places, len(nodes)]
@@ -42,14 +43,14 @@ class Statements(Api):
             part, after = [nodes[at].stmt, *nodes[at + 1:end]], go
             frame = self.frame.with_jumps(labels=dict(labels))
 
-            def go(it: Path, part: Sequence[object] = part, after: Continuation = after, frame: Frame = frame) -> None:
+            def go(it: Path, part: Sequence[Node] = part, after: Continuation = after, frame: Frame = frame) -> None:
                 with self.using(frame):
                     self.in_order(part, it, after)
             labels[nodes[at].name] = go
         with self.using(self.frame.with_jumps(labels=labels)):
             self.in_order(nodes[:places[0]], path, go)
 
-    def in_order(self, nodes: Sequence[object], path: Path, rest: Continuation) -> None:
+    def in_order(self, nodes: Sequence[Node], path: Path, rest: Continuation) -> None:
         at = 0
         while at < len(nodes):
             node, left = nodes[at], nodes[at:]
@@ -77,7 +78,7 @@ class Statements(Api):
         if not path.is_over:
             rest(path)
 
-    def call_to_part(self, node: object, path: Path) -> Optional[object]:
+    def call_to_part(self, node: Node, path: Path) -> MaybeNode:
         """The call of a statement whose ways are to go on apart, since they return what the last answer doesn't say."""
         if not self.parted or trees.kind(node) not in ("Assignment", "Decl", "Return"):
             return None
@@ -85,7 +86,7 @@ class Statements(Api):
         is_parted = call is not None and f"return@{self.spot(call)}" in self.parted
         return call if is_parted and self.result_key(call) not in path.state.locals else None
 
-    def uses(self, nodes: Sequence[object], local: str) -> int:
+    def uses(self, nodes: Sequence[Node], local: str) -> int:
         """How many of these statements it takes to the last one that names the local; 0 if the function names it later, or a jump
         passes over what follows."""
         name = trees.root(local.split("@")[0])
@@ -94,14 +95,14 @@ class Statements(Api):
         is_all = sum(self.unit.mentions(it, name) for it in nodes) == self.unit.named_from(body, name, self.place(nodes[0]).line)
         return last + 1 if is_all and not any(map(self.needs_rest, nodes[:last + 1])) else 0
 
-    def needs_rest(self, node: object) -> bool:
+    def needs_rest(self, node: Node) -> bool:
         """Whether a jump in it passes over what follows, and no op of the script does so."""
         jumps, found = self.frame.jumps, self.unit.escapes(node)
         found -= {"break"} if jumps.break_is_op else set()
         return bool(found - {"return"} if jumps.return_is_op else found)
 
-    def to_split(self, node: object, path: Path) -> Tuple[str, List[Answers]]:
-        """A local, and the answers apart by its constants, where a call in this statement is about to take them."""
+    def to_split(self, node: Node, path: Path) -> Tuple[str, List[Answers]]:
+        """A local, and the answers apart by its constants, if a call in this statement is about to overwrite them."""
         for key, place in self.splits:
             value = path.state.locals.get(key)
             if isinstance(value, Value) and self.holds_call(node, place):
@@ -115,7 +116,7 @@ class Statements(Api):
         if value.lost() is not None:
             return []
         tests = [] if sum(it.high - it.low for it in value.pieces if it.kind == "answer") < MOST_APART else self.tests_of(local)
-        parts: Dict[object, List[Tuple[int, int]]] = {}
+        parts: Dict[Node, List[Tuple[int, int]]] = {}
         for it in value.pieces:
             cuts = {it.low, it.high + 1}
             if it.kind == "answer":
@@ -145,7 +146,7 @@ class Statements(Api):
                         found["==", value.constant() or 0] = None
         return list(found)
 
-    def holds_call(self, node: object, place: Place) -> bool:
+    def holds_call(self, node: Node, place: Place) -> bool:
         """Whether the call at this place is in the statement, or in a function that is called there."""
         calls = self.frame.calls
         if place.calls[:len(calls)] != calls:
@@ -153,8 +154,8 @@ class Statements(Api):
         line = place.calls[len(calls)] if len(place.calls) > len(calls) else place.line
         return line in self.unit.lines_of_calls(node)
 
-    def statement(self, node: object, path: Path, rest: Optional[Continuation]) -> None:
-        """One statement; with a rest where `needs_rest` says so, which then follows on each way that doesn't jump."""
+    def statement(self, node: Node, path: Path, rest: Optional[Continuation]) -> None:
+        """One statement; with a rest if `needs_rest` says so, which then follows on each way that doesn't jump."""
         name = trees.kind(node)
         method = getattr(self, f"do_{name}", None)
         if method is not None:
@@ -168,20 +169,20 @@ class Statements(Api):
             rest(path)
         return None
 
-    def do_Compound(self, node: object, path: Path, rest: Optional[Continuation]) -> None:
+    def do_Compound(self, node: Node, path: Path, rest: Optional[Continuation]) -> None:
         after = None if rest is None else self.later(rest)
         with self.using(self.frame.inner()):
             if after is not None:
                 return self.statements(node.block_items or [], path, after)
             return self.meet(path, lambda end: self.statements(node.block_items or [], path, end))
 
-    def do_EmptyStatement(self, node: object, path: Path, rest: Optional[Continuation]) -> None:
+    def do_EmptyStatement(self, node: Node, path: Path, rest: Optional[Continuation]) -> None:
         pass
 
-    def do_Typedef(self, node: object, path: Path, rest: Optional[Continuation]) -> None:
+    def do_Typedef(self, node: Node, path: Path, rest: Optional[Continuation]) -> None:
         pass
 
-    def do_Pragma(self, node: object, path: Path, rest: Optional[Continuation]) -> None:
+    def do_Pragma(self, node: Node, path: Path, rest: Optional[Continuation]) -> None:
         text = node.string or ""
         words = text.split()
         if words == HOLDS or words[:2] == TURNS and len(words) == 3 and number(words[2]) is not None:
@@ -194,11 +195,11 @@ class Statements(Api):
         self.unit.directives.take(text[len("rtosim"):], self.place(node))
         return None
 
-    def do_DeclList(self, node: object, path: Path, rest: Optional[Continuation]) -> None:
+    def do_DeclList(self, node: Node, path: Path, rest: Optional[Continuation]) -> None:
         for it in node.decls:
             self.do_Decl(it, path, None)
 
-    def do_Decl(self, node: object, path: Path, rest: Optional[Continuation]) -> None:
+    def do_Decl(self, node: Node, path: Path, rest: Optional[Continuation]) -> None:
         type_ = self.unit.constants.type_of(node)
         if node.name is None or type_ == "a function":
             return
@@ -212,7 +213,7 @@ class Statements(Api):
         else:
             self.write_local(key, value, node, path)
 
-    def initial(self, node: object, type_: Type, path: Path) -> Optional[Known]:
+    def initial(self, node: Node, type_: Type, path: Path) -> Optional[Known]:
         if node.init is None:
             return None
         if type_ in OPAQUE:
@@ -223,29 +224,32 @@ class Statements(Api):
         found = self.measured_from(node, node.init, path)
         return self.evaluate(node.init, path) if found is None else found
 
-    def static(self, node: object, type_: Integer, path: Path) -> None:
+    def static(self, node: Node, type_: Integer, path: Path) -> None:
         raise self.refuse(node, f"a static local, `{node.name}`, outlives its function", "a local of the task's function, outside of its loop")
 
     # -- branches
 
-    def do_If(self, node: object, path: Path, rest: Optional[Continuation]) -> None:
+    def going(self, way: List[Node], rest: Continuation) -> Continuation:
+        """Follows the statements of a branch, and then goes on by `rest`."""
+        return self.later(lambda it: self.statements(way, it, rest))
+
+    def do_If(self, node: Node, path: Path, rest: Optional[Continuation]) -> None:
         ways = [[it] if it is not None else [] for it in (node.iftrue, node.iffalse)]
         if is_said_to_hold(node) and self.is_lost(node.cond, path):
             self.note(node, "a comment says that this holds")
             return self.statements(ways[0], path, rest) if rest is not None else self.statement(node.iftrue, path, None)
         if rest is not None:
-            yes, no = (self.later(lambda it, one=way: self.statements(one, it, rest)) for way in ways)
+            yes, no = (self.going(way, rest) for way in ways)
             return self.condition(node.cond, path, yes, no)
         try:
             with self.attempt(path):
-                self.meet(path, lambda end: self.condition(node.cond, path, *(
-                    self.later(lambda it, one=way: self.statements(one, it, end)) for way in ways)))
+                self.meet(path, lambda end: self.condition(node.cond, path, self.going(ways[0], end), self.going(ways[1], end)))
         except LostUse:
             if not self.does_nothing(node, ways, path):
                 raise
         return None
 
-    def is_lost(self, condition: object, path: Path) -> bool:
+    def is_lost(self, condition: Node, path: Path) -> bool:
         """Whether a condition that calls nothing with an op isn't known."""
         if not all(it in WITHOUT_OP or it in self.unit.directives.ignored or self.unit.has_no_op(it) for it in trees.calls_in(condition)):
             return False
@@ -257,7 +261,7 @@ class Statements(Api):
             return True
         return False
 
-    def does_nothing(self, node: object, ways: List[List[object]], path: Path) -> bool:
+    def does_nothing(self, node: Node, ways: List[List[Node]], path: Path) -> bool:
         """Whether it makes no difference which branch is taken: none of them has an op. What the condition calls is called all the same."""
         if self.unit.escapes(node) or trees.find(node.cond, decides_or_writes) is not None:
             return False
@@ -278,7 +282,7 @@ class Statements(Api):
         self.note(node, "no op depends on this: left out")
         return True
 
-    def do_Switch(self, node: object, path: Path, rest: Optional[Continuation]) -> None:
+    def do_Switch(self, node: Node, path: Path, rest: Optional[Continuation]) -> None:
         if rest is not None:
             after = self.later(rest)
             with self.using(self.frame.with_jumps(on_break=after, break_is_op=False)):
@@ -289,7 +293,7 @@ class Statements(Api):
                 self.cases(node, path, end)
         return self.meet(path, part)
 
-    def cases(self, node: object, path: Path, after: Continuation) -> None:
+    def cases(self, node: Node, path: Path, after: Continuation) -> None:
         labels, bodies, default = cases_of(node)
         hidden = trees.hidden_label(it for it in trees.cut_at_labels(trees.statements_of(node)) if not trees.is_label(it))
         if hidden is not None:
@@ -312,7 +316,7 @@ class Statements(Api):
             if not self.is_flat or not self.flat_cases(node, path, (labels, bodies, default), key, after):
                 choose(0, path)
 
-    def flat_cases(self, node: object, path: Path, cases: Cases, key: str, after: Continuation) -> bool:
+    def flat_cases(self, node: Node, path: Path, cases: Cases, key: str, after: Continuation) -> bool:
         """The cases one after another in a `repeat 1` that each of them leaves: not as deep as one in another. False if a case leaves
         a loop itself, or goes on by a jump."""
         labels, bodies, default = cases
@@ -333,7 +337,7 @@ class Statements(Api):
         path.end()
         return True
 
-    def run(self, body: Sequence[object], path: Path, after: Continuation, switch: object) -> None:
+    def run(self, body: Sequence[Node], path: Path, after: Continuation, switch: Node) -> None:
         """The statements of a case: what follows them in the `switch` follows here, up to a `break`. A declaration before them is in
         sight, and what it begins with isn't there."""
         with self.using(self.frame.inner()):
@@ -341,7 +345,7 @@ class Statements(Api):
                 self.do_Decl(it, path, None)
             self.statements(body, path, after)
 
-    def truth_of_labels(self, labels: Sequence[object], value: Known, node: object, path: Path) -> Answers:
+    def truth_of_labels(self, labels: Sequence[Node], value: Known, node: Node, path: Path) -> Answers:
         found = NOTHING
         for it in labels:
             label = self.unit.constants.value(it)
@@ -353,20 +357,24 @@ class Statements(Api):
 
     # -- jumps
 
-    def do_Break(self, node: object, path: Path, rest: Optional[Continuation]) -> None:
+    def do_Break(self, node: Node, path: Path, rest: Optional[Continuation]) -> None:
         self.jump = node
-        self.frame.jumps.on_break(path)
+        go = self.frame.jumps.on_break
+        assert go is not None, node
+        go(path)
 
-    def do_Continue(self, node: object, path: Path, rest: Optional[Continuation]) -> None:
-        self.frame.jumps.on_continue(path)
+    def do_Continue(self, node: Node, path: Path, rest: Optional[Continuation]) -> None:
+        go = self.frame.jumps.on_continue
+        assert go is not None, node
+        go(path)
 
-    def do_Return(self, node: object, path: Path, rest: Optional[Continuation]) -> None:
+    def do_Return(self, node: Node, path: Path, rest: Optional[Continuation]) -> None:
         value = Nothing() if node.expr is None else self.evaluate(node.expr, path)
         self.jump = node
         if not path.is_over:
             self.frame.jumps.on_return(path, value)
 
-    def do_FuncCall(self, node: object, path: Path, rest: Optional[Continuation]) -> None:
+    def do_FuncCall(self, node: Node, path: Path, rest: Optional[Continuation]) -> None:
         if trees.called(node) != "vTaskDelete":
             self.evaluate(node, path)
             return
@@ -379,24 +387,24 @@ class Statements(Api):
         self.jump = node
         self.frame.jumps.on_return(path, Nothing())
 
-    def do_Goto(self, node: object, path: Path, rest: Optional[Continuation]) -> None:
+    def do_Goto(self, node: Node, path: Path, rest: Optional[Continuation]) -> None:
         if node.name not in self.frame.jumps.labels:
             raise self.refuse(node, "`goto` goes to a label that is ahead, and out of no loop", "a loop, a branch, or a function with `return`")
         self.frame.jumps.labels[node.name](path)
 
 
-def is_said_to_hold(node: object) -> bool:
+def is_said_to_hold(node: Node) -> bool:
     """Whether the branch of an `if` begins with the comment that says so."""
     return first_comment(node.iftrue) == HOLDS
 
 
-def first_comment(node: object) -> List[str]:
+def first_comment(node: Node) -> List[str]:
     """The words of the comment with which a block begins."""
     first = (node.block_items or [None])[0] if trees.kind(node) == "Compound" else None
     return (first.string or "").split() if trees.kind(first) == "Pragma" else []
 
 
-def decides_or_writes(node: object) -> bool:
+def decides_or_writes(node: Node) -> bool:
     """Whether an expression leaves out a part of itself, or gives something a new value."""
     name = trees.kind(node)
     return name in ("TernaryOp", "Assignment") or name in ("BinaryOp", "UnaryOp") and node.op in ("&&", "||", "++", "--", "p++", "p--")
@@ -407,11 +415,11 @@ class Same:
 
     op = "=="
 
-    def __init__(self, node: object):
+    def __init__(self, node: Node) -> None:
         self.coord = node.coord
 
 
-def declared_before(switch: object, body: Sequence[object]) -> Iterator[object]:
+def declared_before(switch: Node, body: Sequence[Node]) -> Iterator[Node]:
     """The declarations in the block of a `switch` that are before the statements of a case."""
     for it in trees.cut_at_labels(trees.statements_of(switch)):
         if body and it is body[0]:
@@ -420,10 +428,10 @@ def declared_before(switch: object, body: Sequence[object]) -> Iterator[object]:
             yield it if "static" in (it.storage or []) else trees.without_value(it)
 
 
-def cases_of(node: object) -> Cases:
+def cases_of(node: Node) -> Cases:
     """The labels of each group of cases, the statements from each on, and which of them is the default, which has its labels last."""
-    bodies: List[List[object]] = []
-    labels: List[List[object]] = []
+    bodies: List[List[Node]] = []
+    labels: List[List[Node]] = []
     default, is_open = None, False
     for it in trees.cut_at_labels(trees.statements_of(node)):
         if not trees.is_label(it):

@@ -15,13 +15,14 @@ from .integers import INT, Integer
 from .memory import Memory
 from .paths import Path
 from .refusals import Lost, LostUse
+from .trees import MaybeNode, Node
 from .values import Address, Handle, Known, Reference, Value, constant, lost
 
 STRUCTURE = "a structure"
 
 
 class Structures(Memory):
-    """Where a local structure is named its address has the key of the local."""
+    """If a local structure is named, its address has the key of the local."""
 
     # The type of the member that is received, if that is smaller than the item.
     received: Optional[Integer] = None
@@ -32,21 +33,21 @@ class Structures(Memory):
             return found
         return Address(name, key)
 
-    def member(self, inner: Union[Address, Reference], node: object) -> Address:
+    def member(self, inner: Union[Address, Reference], node: Node) -> Address:
         found = super().member(inner, node)
         return replace(found, key=inner.key) if isinstance(inner, Address) else found
 
-    def element(self, inner: Union[Address, Reference], index: Known, node: object, path: Path) -> Union[Address, Reference]:
+    def element(self, inner: Union[Address, Reference], index: Known, node: Node, path: Path) -> Union[Address, Reference]:
         found = super().element(inner, index, node, path)
         return Address(found.name) if isinstance(found, Address) else found
 
-    def pointer_arithmetic(self, node: object, left: Known, right: Known, path: Path) -> Known:
+    def pointer_arithmetic(self, node: Node, left: Known, right: Known, path: Path) -> Known:
         found = super().pointer_arithmetic(node, left, right, path)
         return Address(found.name) if isinstance(found, Address) else found
 
     # -- members
 
-    def declaration(self, where: Address) -> Optional[object]:
+    def declaration(self, where: Address) -> MaybeNode:
         """The declaration of what is there, in a local structure."""
         found = self.declarations.get(where.key)
         for member, _ in PART.findall(where.name[len(trees.root(where.name)):]):
@@ -89,7 +90,7 @@ class Structures(Memory):
             found = [("", key)] if key is not None else self.fields(it)
             yield from ((it.name[len(where.name):] + rest, key) for rest, key in found)
 
-    def content(self, where: Union[Address, Reference], node: object, path: Path) -> Known:
+    def content(self, where: Union[Address, Reference], node: Node, path: Path) -> Known:
         key = self.field(where)
         if key is None and isinstance(where, Address) and where.key in self.declarations and self.is_whole(where):
             return where
@@ -99,7 +100,7 @@ class Structures(Memory):
         """Whether a whole structure is there."""
         return where.index is None and self.unit.constants.structure(self.declaration(where)) is not None
 
-    def write_there(self, where: Union[Address, Reference], value: Known, node: object, path: Path) -> Known:
+    def write_there(self, where: Union[Address, Reference], value: Known, node: Node, path: Path) -> Known:
         key = self.field(where)
         if key is not None and isinstance(self.types[key], Integer) and isinstance(value, (Address, Reference)):
             self.let_go(value)
@@ -110,12 +111,12 @@ class Structures(Memory):
             return self.copy(where, value, node, path)
         return super().write_there(where, value, node, path)
 
-    def write_local(self, key: str, value: Known, node: object, path: Path) -> Known:
+    def write_local(self, key: str, value: Known, node: Node, path: Path) -> Known:
         if self.types[key] != STRUCTURE:
             return super().write_local(key, value, node, path)
         return self.copy(Address(key.split("@")[0], key), value, node, path)
 
-    def copy(self, where: Address, value: Known, node: object, path: Path) -> Known:
+    def copy(self, where: Address, value: Known, node: Node, path: Path) -> Known:
         """Gives each integer of a structure the value that it has in another one."""
         why = value.lost() if isinstance(value, Value) else None
         for rest, key in list(self.fields(where)):
@@ -127,13 +128,13 @@ class Structures(Memory):
         return value
 
     def let_pointers_go(self, where: Known, kept: Set[str], path: Path) -> None:
-        """What the pointers of a local structure lead to goes where it isn't followed, but for the members that are kept."""
+        """What the pointers of a local structure lead to goes where it isn't followed, except for the members that are kept."""
         if isinstance(where, Address) and where.key in self.declarations:
             for rest, key in self.fields(where):
                 if rest not in kept:
                     self.let_go(path.state.locals.get(key))
 
-    def returned(self, value: Known, definition: object, node: object, path: Path) -> Known:
+    def returned(self, value: Known, definition: Node, node: Node, path: Path) -> Known:
         """A structure that a function returns is kept by itself, since another call of the function uses the same locals."""
         if self.unit.constants.type_of(definition.decl.type.type) != STRUCTURE:
             return super().returned(value, definition, node, path)
@@ -144,10 +145,10 @@ class Structures(Memory):
 
     # -- declarations
 
-    def initial(self, node: object, type_: Type, path: Path) -> Optional[Known]:
+    def initial(self, node: Node, type_: Type, path: Path) -> Optional[Known]:
         return None if type_ == STRUCTURE and "static" not in node.storage else super().initial(node, type_, path)
 
-    def do_Decl(self, node: object, path: Path, rest: Optional[Continuation]) -> None:
+    def do_Decl(self, node: Node, path: Path, rest: Optional[Continuation]) -> None:
         super().do_Decl(node, path, rest)
         where = self.opaque(node.name) if node.name is not None else None
         if where is None or where.key is None:
@@ -161,7 +162,7 @@ class Structures(Memory):
         elif node.init is not None:
             self.copy(where, self.evaluate(node.init, path), node, path)
 
-    def begin(self, where: Address, given: List[object], path: Path) -> None:
+    def begin(self, where: Address, given: List[Node], path: Path) -> None:
         """A structure that begins with these values, and otherwise with 0."""
         members = list(self.inner(where))
         declaration, initializers = self.declaration(where), Initializers(self.unit.constants, self.is_structure)
@@ -181,16 +182,16 @@ class Structures(Memory):
             elif key is not None:
                 self.write_local(key, constant(0) if node is None else self.evaluate(node, path), node or self.declaration(it), path)
 
-    def declaration_of(self, name: str) -> Optional[object]:
+    def declaration_of(self, name: str) -> MaybeNode:
         """The declaration of what is named here."""
         key = self.frame.local(name)
         return self.declarations.get(key) if key is not None else self.unit.globals.get(name)
 
-    def is_structure(self, node: object) -> bool:
+    def is_structure(self, node: Node) -> bool:
         """Whether an expression is a whole structure."""
         return self.unit.types.is_structure(node, self.declaration_of)
 
-    def begin_with(self, where: Address, node: object, path: Path) -> None:
+    def begin_with(self, where: Address, node: Node, path: Path) -> None:
         """A structure in another one that begins as a third one."""
         value = self.evaluate(node, path)
         if not isinstance(value, Address):
@@ -205,7 +206,7 @@ class Structures(Memory):
             raise Escaped()
         super().let_go(value)
 
-    def let_addresses_go(self, node: object, path: Path) -> None:
+    def let_addresses_go(self, node: Node, path: Path) -> None:
         for it in trees.walk(node):
             self.let_pointers_go(self.opaque(it.name) if trees.kind(it) == "ID" else None, set(), path)
             name = trees.dotted(it.expr) if trees.kind(it) == "UnaryOp" and it.op == "&" else None
@@ -228,7 +229,7 @@ class Structures(Memory):
         key = self.field(where)
         return key is not None and isinstance(self.types[key], Integer)
 
-    def item(self, value: Known, queue: Handle, node: object, path: Path) -> str:
+    def item(self, value: Known, queue: Handle, node: Node, path: Path) -> str:
         member = self.carried(value)
         if member is None:
             return super().item(value, queue, node, path)
@@ -239,7 +240,7 @@ class Structures(Memory):
         self.note(node, f"of `{value.name}` the queue has `{member.name.split('.')[-1]}`")
         return super().item(Reference(key), queue, node, path)
 
-    def answered(self, call: Call, values: Dict[Argument, Known], texts: Dict[str, str], node: object, path: Path) -> Known:
+    def answered(self, call: Call, values: Dict[Argument, Known], texts: Dict[str, str], node: Node, path: Path) -> Known:
         storage = values.get(Argument.STORAGE, values.get(Argument.VALUE_STORAGE))
         member = self.carried(storage)
         if member is None:

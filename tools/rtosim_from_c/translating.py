@@ -14,6 +14,7 @@ from .items import If, Item, Line, Repeat, fused, lines_of, takes_time
 from .paths import Path, State
 from .refusals import Lost, LostUse, Note, Refusal, SeveralRefusals
 from .source import Lines, parsed, preprocessed
+from .trees import Node
 from .unit import Handler, Object, Task, Unit
 from .values import lost
 
@@ -61,9 +62,9 @@ class Translation(Handles):
 
     uses_daemon = False
 
-    def __init__(self, unit: Unit, target: Target, owner: Union[Task, Handler]):
+    def __init__(self, unit: Unit, target: Target, owner: Union[Task, Handler]) -> None:
         super().__init__(unit, target, owner)
-        # What wasn't known where the script was refused.
+        # What wasn't known when the script was refused.
         self.missed: List[Lost] = []
 
     def script(self) -> Script:
@@ -83,7 +84,7 @@ class Translation(Handles):
             self.notes, self.uses_daemon = again.notes, again.uses_daemon
 
     def in_two_ways(self) -> Script:
-        """A local whose value another answer takes splits the ways, where that helps; otherwise it is a variable."""
+        """A local whose value another answer overwrites splits the ways, if that helps; otherwise it is a variable."""
         try:
             return self.with_retries()
         except Refusal as first:
@@ -121,7 +122,7 @@ class Translation(Handles):
         ends: List[State] = []
         path = Path(State())
 
-        def end(fork: Path, _: object = None) -> None:
+        def end(fork: Path, _: Node = None) -> None:
             if fork.state.sections > 0:
                 self.note(definition, f"`{self.owner.name}` may end in a critical section: the run ends then with a misuse", True)
             ends.append(fork.state)
@@ -171,7 +172,7 @@ class Translation(Handles):
 
 
 def translated(unit: Unit, target: Target = PROGRAM) -> Application:
-    """The application; all refusals at once, where there are some."""
+    """The application; all refusals at once, if there are some."""
     while True:
         known = unit.learned()
         found, refusals = translated_once(unit, target)
@@ -192,7 +193,8 @@ def translated_once(unit: Unit, target: Target) -> Tuple[Application, List[Refus
     """The application, from what is known by now of the items of its queues, and the refusals."""
     found, refusals = Application(unit), list(unit.refusals)
     notes: Dict[Note, None] = dict.fromkeys(unit.notes)
-    for owner in [*unit.handlers, *unit.tasks]:
+    owners: List[Union[Task, Handler]] = [*unit.handlers, *unit.tasks]
+    for owner in owners:
         translation = Translation(unit, target, owner)
         try:
             script = translation.script()

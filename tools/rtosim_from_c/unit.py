@@ -6,7 +6,7 @@ from typing import Dict, FrozenSet, Iterator, List, Mapping, Optional, Sequence,
 from . import trees
 from .answers import Answers, answers, only
 from .arrays import Arrays
-from .calls import CALLS, CREATORS, SETUP, TASK_CREATORS
+from .calls import CALLS, CREATORS, LASTING, NO_OP, SETUP, TASK_CREATORS
 from .constants import Constants, numeral
 from .directives import Directives, Ignored
 from .fields import Fields
@@ -19,6 +19,7 @@ from .reset import Reset
 from .scopes import Scopes
 from .source import HEADERS, Lines, place_of
 from .static_types import StaticTypes
+from .trees import MaybeNode, Node
 from .unrolling import Unrolling
 from .values import Address, Handle, Known, Value, constant
 
@@ -64,13 +65,13 @@ class Handler:
 class Unit(Reached):
     """A file, as far as it is known without its functions being followed."""
 
-    def __init__(self, tree: object, lines: Lines, handlers: Sequence[str] = (), ignored: Sequence[str] = (), failing: Sequence[str] = (),
-                 has_short_enums: bool = False):
+    def __init__(self, tree: Node, lines: Lines, handlers: Sequence[str] = (), ignored: Sequence[str] = (), failing: Sequence[str] = (),
+                 has_short_enums: bool = False) -> None:
         self.lines, self.names, self.constants = lines, Names(), Constants(has_short_enums)
         self.directives = Directives(handlers=set(handlers), ignored=Ignored(ignored), failing=Ignored(failing))
-        self.functions: Dict[str, object] = {}
-        self.globals: Dict[str, object] = {}
-        self.prototypes: Dict[str, object] = {}
+        self.functions: Dict[str, Node] = {}
+        self.globals: Dict[str, Node] = {}
+        self.prototypes: Dict[str, Node] = {}
         self.objects: List[Object] = []
         self.handles: Dict[Tuple[str, str], Handle] = {}
         self.tasks: List[Task] = []
@@ -82,7 +83,7 @@ class Unit(Reached):
         self.with_large_items: Set[str] = set()
         self.variables: Dict[str, int] = {}
         # expressions whose value nothing takes
-        self.statement_nodes: Set[object] = set()
+        self.statement_nodes: Set[Node] = set()
         self.named_by_callers: List[Tuple[str, Optional[str]]] = []
         # the tasks whose handles globals have from their creation on
         self.created_as: Dict[str, str] = {}
@@ -90,11 +91,11 @@ class Unit(Reached):
         self.created_by: Dict[int, List[Handle]] = {}
         self.not_constant: Dict[Tuple[str, str], Refusal] = {}
         self.task_of: Dict[int, Task] = {}
-        self.jumps: Dict[object, FrozenSet[str]] = {}
-        self.called_lines: Dict[object, FrozenSet[int]] = {}
-        self.tests: Dict[object, FrozenSet[str]] = {}
-        self.name_lines: Dict[object, Dict[str, List[int]]] = {}
-        self.trees: Dict[object, List[object]] = {}
+        self.jumps: Dict[Node, FrozenSet[str]] = {}
+        self.called_lines: Dict[Node, FrozenSet[int]] = {}
+        self.tests: Dict[Node, FrozenSet[str]] = {}
+        self.name_lines: Dict[Node, Dict[str, List[int]]] = {}
+        self.trees: Dict[Node, List[Node]] = {}
         self.bits: Optional[Answers] = None
         self.silent: Dict[str, bool] = {}
         self.names_of_locals: Dict[str, Set[str]] = {}
@@ -111,12 +112,12 @@ class Unit(Reached):
         self.fields = Fields(self)
         self.name_tasks()
 
-    def place(self, node: object) -> Place:
+    def place(self, node: Node) -> Place:
         return place_of(node, self.lines) or Place("", 0, 0)
 
     # -- declarations
 
-    def declare(self, tree: object) -> None:
+    def declare(self, tree: Node) -> None:
         self.declare_types(tree)
         scopes = Scopes(tree, lambda it: isinstance(self.constants.type_of(it), Integer))
         scopes.run()
@@ -143,11 +144,11 @@ class Unit(Reached):
         self.types = StaticTypes(self.constants, {**self.prototypes, **{name: it.decl for name, it in self.functions.items()}})
         self.given = Given(self.functions, frozenset(self.globals), self.constants)
 
-    def declare_types(self, tree: object) -> None:
+    def declare_types(self, tree: Node) -> None:
         """The types of the file, those in functions too: each name is that of one type."""
         for it in tree.ext:
             for node in trees.walk(it):
-                name, before = getattr(node, "name", None), None
+                name, before = getattr(node, "name", None) or "", None
                 if trees.kind(node) == "Struct" and name and node.decls:
                     before = self.constants.structures.setdefault(name, node)
                 elif trees.kind(node) == "Typedef":
@@ -155,12 +156,12 @@ class Unit(Reached):
                 if before not in (None, node) and (before is None or not trees.is_alike(before, node)):
                     self.refusals.append(two_types(self.place(node), name))
 
-    def declare_global(self, declaration: object) -> None:
+    def declare_global(self, declaration: Node) -> None:
         name = declaration.name
         if name not in self.globals or declaration.init is not None:
             self.globals[name] = declaration
 
-    def declare_constant(self, name: str, declaration: object) -> None:
+    def declare_constant(self, name: str, declaration: Node) -> None:
         """A global that nothing gives another value is a constant."""
         type_ = self.constants.type_of(declaration)
         is_volatile = any("volatile" in (getattr(it, "quals", None) or []) for it in trees.walk(declaration.type))
@@ -169,7 +170,7 @@ class Unit(Reached):
             if value is not None:
                 self.constants.numbers[name] = constant(value.constant() or 0, type_)
 
-    def take_comment(self, pragma: object) -> None:
+    def take_comment(self, pragma: Node) -> None:
         text = pragma.string or ""
         if not text.startswith("rtosim"):
             return
@@ -194,11 +195,13 @@ class Unit(Reached):
                 elif trees.called(node) in CREATORS and id(node) not in named:
                     self.create(function, None, node)
 
-    def targets(self, function: str, node: object, target: Optional[str]) -> List[Tuple[str, Optional[str]]]:
+    def targets(self, function: str, node: Node, target: Optional[str]) -> List[Tuple[str, Optional[str]]]:
         """The names that are given what a call creates, each with its function: several if a function does so with what it is given."""
         if trees.kind(node) == "Return":
             return list(self.given_by_calls(function)) or [(function, None)]
-        found = self.given.names(function, node.lvalue) if target is None and trees.kind(node) == "Assignment" else [target]
+        found: Sequence[Optional[str]] = [target]
+        if target is None and trees.kind(node) == "Assignment":
+            found = self.given.names(function, node.lvalue)
         return [(function, it) for it in found] or [(function, None)]
 
     def given_by_calls(self, function: str) -> Iterator[Tuple[str, Optional[str]]]:
@@ -212,7 +215,7 @@ class Unit(Reached):
                         names = self.given.names(caller, node.lvalue)
                     yield from ((caller, it) for it in names)
 
-    def create(self, function: str, target: Optional[str], call: object) -> None:
+    def create(self, function: str, target: Optional[str], call: Node) -> None:
         place = self.place(call)
         if target is None:
             self.refusals.append(Refusal(place, "this object has no name", "assign what creates it to a variable"))
@@ -221,7 +224,7 @@ class Unit(Reached):
         if (scope, target) in self.handles:
             self.refusals.append(Refusal(place, f"`{target}` is created twice", "a variable for each object"))
             return
-        kind, *keys = CREATORS[trees.called(call)]
+        kind, *keys = CREATORS[trees.called(call) or ""]
         handle = Handle(kind, self.names.name(f"object of {scope}", target, target.replace("]", "")))
         self.handles[scope, target] = handle
         self.created_by.setdefault(id(call), []).append(handle)
@@ -234,23 +237,23 @@ class Unit(Reached):
             numbers["bytes"] = (value.constant() or 0) if value is not None and key == "size" else 0
         self.objects.append(Object(kind, handle.name, place, numbers))
 
-    def escapes(self, node: object) -> FrozenSet[str]:
+    def escapes(self, node: Node) -> FrozenSet[str]:
         """How a statement may leave what is around it."""
         if node not in self.jumps:
             self.jumps[node] = frozenset(trees.escapes(node))
         return self.jumps[node]
 
-    def below(self, node: object) -> List[object]:
+    def below(self, node: Node) -> List[Node]:
         """The node and all below it, in the order of the text."""
         if node not in self.trees:
             self.trees[node] = list(trees.walk(node))
         return self.trees[node]
 
-    def mentions(self, node: object, name: str) -> int:
+    def mentions(self, node: Node, name: str) -> int:
         """How often a name is in a statement."""
         return self.named_from(node, name, 0)
 
-    def named_from(self, node: object, name: str, line: int) -> int:
+    def named_from(self, node: Node, name: str, line: int) -> int:
         """How often a name is in a statement, from this line on."""
         if node not in self.name_lines:
             found: Dict[str, List[int]] = {}
@@ -260,14 +263,14 @@ class Unit(Reached):
             self.name_lines[node] = found
         return sum(it >= line for it in self.name_lines[node].get(name, []))
 
-    def tested(self, loop: object) -> FrozenSet[str]:
+    def tested(self, loop: Node) -> FrozenSet[str]:
         """The names in the conditions of a loop, and of what is in it."""
         if loop not in self.tests:
             conditions = [it.cond for it in trees.walk(loop) if getattr(it, "cond", None) is not None]
             self.tests[loop] = frozenset(it.name for one in conditions for it in trees.walk(one) if trees.kind(it) == "ID")
         return self.tests[loop]
 
-    def lines_of_calls(self, node: object) -> FrozenSet[int]:
+    def lines_of_calls(self, node: Node) -> FrozenSet[int]:
         """The lines in which something is called."""
         if node not in self.called_lines:
             self.called_lines[node] = frozenset(self.place(it).line for it in trees.walk(node) if trees.kind(it) == "FuncCall")
@@ -282,10 +285,10 @@ class Unit(Reached):
     def bits_set(self) -> Answers:
         masks = [trees.arguments(it)[1] for it in self.nodes() if trees.called(it) in SETS_OF_BITS]
         values = [self.constants.value(it) for it in masks]
-        if any(it is None for it in values):
-            return answers((0, ALL_BITS))
         union = 0
         for it in values:
+            if it is None:
+                return answers((0, ALL_BITS))
             union |= (it.constant() or 0) & ALL_BITS
         places = [1 << at for at in range(24) if union >> at & 1]
         if len(places) > MOST_BITS_APART:
@@ -296,7 +299,7 @@ class Unit(Reached):
         """Where a name belongs: to the file, or to a function."""
         return "" if trees.root(target) in self.globals else function
 
-    def handle(self, function: str, node: object) -> Optional[Handle]:
+    def handle(self, function: str, node: Node) -> Optional[Handle]:
         """The handle that a variable, or a member of one, has."""
         name = trees.dotted(node)
         return (self.handles.get((function, name)) or self.handles.get(("", name))) if name else None
@@ -361,7 +364,7 @@ class Unit(Reached):
         for function, target in self.named_by_callers:
             self.name_caller(function, target)
 
-    def find_task(self, scope: str, call: object) -> None:
+    def find_task(self, scope: str, call: Node) -> None:
         name, words = trees.called(call), trees.arguments(call)
         place = self.place(call)
         if len(self.given.calls.get(scope, [])) > 1:
@@ -384,8 +387,9 @@ class Unit(Reached):
         self.task_of[id(call)] = task
         self.name_task(scope, call, words, task)
 
-    def name_task(self, scope: str, call: object, words: List[object], task: Task) -> None:
+    def name_task(self, scope: str, call: Node, words: List[Node], task: Task) -> None:
         """The variable that has the task's handle."""
+        target: Optional[str] = None
         if trees.called(call) == "xTaskCreate":
             last = trees.plain(words[5])
             targets = self.given.names(scope, last.expr) if trees.kind(last) == "UnaryOp" else []
@@ -399,7 +403,7 @@ class Unit(Reached):
             self.handles[self.scope_of(target, scope), target] = Handle("task", task.name)
             self.created_as[target] = task.name
 
-    def parameter(self, scope: str, node: object) -> Optional[Known]:
+    def parameter(self, scope: str, node: Node) -> Optional[Known]:
         """What a task is given; None if only what is done before the scheduler starts may say so."""
         found = self.handle(scope, trees.plain(node))
         if found is not None:
@@ -407,8 +411,8 @@ class Unit(Reached):
         value: Union[Value, None] = self.constants.value(node)
         if value is not None:
             return value
-        found = self.given.leads_to(scope, node)
-        return self.followed(Address(found[0])) if len(found) == 1 else None
+        led_to = self.given.leads_to(scope, node)
+        return self.followed(Address(led_to[0])) if len(led_to) == 1 else None
 
     def find_kept(self) -> None:
         """What `main` gives globals: handles, pointers, numbers, and the parameters of tasks."""
@@ -467,7 +471,7 @@ class Unit(Reached):
         if target is not None and not self.scope_of(target, function) and len(owners) == 1:
             self.handles["", target] = Handle("task", owners[0].name)
 
-    def refuse_creators(self, loop: object) -> None:
+    def refuse_creators(self, loop: Node) -> None:
         for node in trees.walk(loop):
             if trees.called(node) in (*CREATORS, *TASK_CREATORS):
                 self.refusals.append(Refusal(self.place(node), f"{trees.called(node)} in a loop", "each creation by itself"))
@@ -494,13 +498,16 @@ class Unit(Reached):
                 name = trees.called(node)
                 if name == "xSemaphoreGive" and self.gives(function, node):
                     continue
+                if name in LASTING and name not in self.directives.ignored:
+                    what, instead = NO_OP[name]
+                    self.refusals.append(Refusal(self.place(node), f"{name} before the scheduler starts: {what}", instead))
                 if name in CALLS:
                     instead = "the same at the beginning of a task"
                     if "app_main" in self.functions:
                         instead += "; what app_main does as a task, in a task of its own"
                     self.refusals.append(Refusal(self.place(node), f"{name} before the scheduler starts", instead))
 
-    def gives(self, function: str, call: object) -> bool:
+    def gives(self, function: str, call: Node) -> bool:
         handle = self.handle(function, trees.plain(trees.arguments(call)[0]))
         found = self.object(handle.name) if handle else None
         if found is None or found.kind not in ("binary", "counting"):
@@ -518,7 +525,7 @@ def two_types(place: Place, name: str) -> Refusal:
     return Refusal(place, f"`{name}` is the name of two types", "a name for each of them")
 
 
-def created(node: object) -> Tuple[Optional[str], Optional[object]]:
+def created(node: Node) -> Tuple[Optional[str], MaybeNode]:
     """The name and the call of `name = call(..)` or of `type name = call(..)`; no name if what is assigned to is no name."""
     name = trees.kind(node)
     if name == "Decl" and node.init is not None:
@@ -532,7 +539,7 @@ def created(node: object) -> Tuple[Optional[str], Optional[object]]:
     return (None, call) if call is not None and trees.called(call) in CREATORS else (None, None)
 
 
-def text_of(node: object) -> Optional[str]:
+def text_of(node: Node) -> Optional[str]:
     node = trees.plain(node)
     is_text = trees.kind(node) == "Constant" and node.value.startswith('"')
     return node.value[1:-1] if is_text else None

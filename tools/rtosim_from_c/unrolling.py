@@ -7,6 +7,7 @@ from . import trees
 from .calls import CREATORS, TASK_CREATORS
 from .constants import Constants
 from .integers import COMPARISONS
+from .trees import Node
 
 MOST_TURNS = 16
 
@@ -14,7 +15,7 @@ MOST_TURNS = 16
 class Unrolling:
     """The loops of a file whose turns a constant counts, and in which something is created."""
 
-    def __init__(self, functions: Dict[str, object], constants: Constants):
+    def __init__(self, functions: Dict[str, Node], constants: Constants) -> None:
         self.functions, self.constants = functions, constants
         self.creating: Set[str] = {*CREATORS, *TASK_CREATORS}
         before = 0
@@ -22,7 +23,7 @@ class Unrolling:
             before = len(self.creating)
             self.creating |= {name for name, it in functions.items() if self.creates(it.body)}
 
-    def creates(self, node: object) -> bool:
+    def creates(self, node: Node) -> bool:
         return any(it in self.creating for it in trees.calls_in(node))
 
     def run(self) -> None:
@@ -34,7 +35,7 @@ class Unrolling:
                     if turns is not None:
                         items[at] = in_a_block(turns, inner)
 
-    def turns(self, loop: object) -> Optional[List[object]]:
+    def turns(self, loop: Node) -> Optional[List[Node]]:
         """The body of each turn; None if it isn't known how many they are."""
         found = counter(loop)
         if found is None:
@@ -44,14 +45,15 @@ class Unrolling:
         is_changed = any(name in (trees.assigned(it), getattr(it, "name", None) if trees.kind(it) == "Decl" else None) for it in trees.walk(loop.stmt))
         if number is None or last is None or is_changed or trees.escapes(loop.stmt) or {"break", "continue"} & jumps(loop.stmt):
             return None
-        at, end, bodies = number.constant() or 0, last.constant() or 0, []
+        at, end = number.constant() or 0, last.constant() or 0
+        bodies: List[Node] = []
         while COMPARISONS[loop.cond.op](at, end) and len(bodies) <= MOST_TURNS:
             bodies.append(with_number(copy.deepcopy(loop.stmt), name, at))
             at += step
         return bodies if len(bodies) <= MOST_TURNS else None
 
 
-def counter(loop: object) -> Optional[Tuple[str, object, int]]:
+def counter(loop: Node) -> Optional[Tuple[str, Node, int]]:
     """The local that counts the turns of a loop, what it begins with, and how much more it is in each turn."""
     begin = loop.init.decls[0] if trees.kind(loop.init) == "DeclList" and len(loop.init.decls) == 1 else loop.init
     if trees.kind(begin) == "Decl":
@@ -65,11 +67,11 @@ def counter(loop: object) -> Optional[Tuple[str, object, int]]:
     return (name, first, -1 if "-" in loop.next.op else 1) if first is not None and is_asked and is_stepped else None
 
 
-def jumps(node: object) -> Set[str]:
+def jumps(node: Node) -> Set[str]:
     return {trees.kind(it).lower() for it in trees.walk(node)}
 
 
-def with_number(node: object, name: str, number: int) -> object:
+def with_number(node: Node, name: str, number: int) -> Node:
     """The tree with a number in the place of a local."""
     module = sys.modules[type(node).__module__]
     for it in list(trees.walk(node)):
@@ -79,12 +81,12 @@ def with_number(node: object, name: str, number: int) -> object:
     return node
 
 
-def slots(node: object) -> Iterator[Tuple[str, object]]:
+def slots(node: Node) -> Iterator[Tuple[str, Node]]:
     """Where a node has its children."""
     return ((name, it) for name, it in node.children())
 
 
-def replace_slot(node: object, slot: str, new: object) -> None:
+def replace_slot(node: Node, slot: str, new: Node) -> None:
     name, _, index = slot.partition("[")
     if index:
         getattr(node, name)[int(index.rstrip("]"))] = new
@@ -92,5 +94,5 @@ def replace_slot(node: object, slot: str, new: object) -> None:
         setattr(node, name, new)
 
 
-def in_a_block(bodies: List[object], loop: object) -> object:
+def in_a_block(bodies: List[Node], loop: Node) -> Node:
     return sys.modules[type(loop).__module__].Compound(bodies, loop.coord)

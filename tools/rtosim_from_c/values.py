@@ -1,7 +1,7 @@
 """What is known of a value of C: a function of the task's last answer, in pieces.
 
 A script keeps nothing but its last answer. So a local may be a constant, it may be the last answer itself, or it may depend on the last
-answer in pieces: of `ok = xQueueReceive(..)` it is 0 for `none` and 1 otherwise. When another call answers, only constants are left."""
+answer in pieces: of `ok = xQueueReceive(..)` it is 0 for `none` and 1 otherwise. After another call only constants are left."""
 from dataclasses import dataclass, field, replace
 from typing import Callable, Iterable, Iterator, List, Optional, Tuple, Union
 
@@ -32,7 +32,7 @@ class Piece:
         return Piece(low, high, self.kind, self.number, self.lost, self.among)
 
     def numbers(self) -> Optional[Answers]:
-        """The numbers that it may be, where that is known."""
+        """The numbers that it may be, if that is known."""
         return self.among if self.kind == LOST else answers((self.at(self.low), self.at(self.high)))
 
 
@@ -44,7 +44,7 @@ class Value:
     pieces: Tuple[Piece, ...]
 
     def among(self, known: Answers) -> "Value":
-        """What is left of it where the last answer is one of these."""
+        """What is left of it if the last answer is one of these."""
         if len(self.pieces) == 1:
             only_one = self.pieces[0]
             if len(known.ranges) == 1 and known.ranges[0] == (only_one.low, only_one.high):
@@ -62,7 +62,7 @@ class Value:
         is_one = first and first.kind != LOST and all(it.kind == NUMBER and it.number == first.number for it in self.pieces)
         if first and first.kind == ANSWER and len(self.pieces) == 1 and first.low == first.high:
             return first.at(first.low)
-        return first.number if is_one and first.kind == NUMBER else None
+        return first.number if first and is_one and first.kind == NUMBER else None
 
     def is_one_piece(self) -> bool:
         """Whether it is the same number, or lost in the same way, whatever the answer is: another answer changes nothing of it."""
@@ -115,7 +115,7 @@ class Stored:
     missing: Optional[Lost] = None
 
     def among(self, known: Answers) -> "Stored":
-        """The same where the last answer is one of these."""
+        """The same if the last answer is one of these."""
         return self if known & only(NONE) else replace(self, missing=None)
 
 
@@ -133,7 +133,7 @@ Known = Union[Value, Handle, Reference, Address, Stamp, Stored, Text, Nothing]
 
 
 def joined(pieces: Iterable[Piece]) -> Tuple[Piece, ...]:
-    """The pieces in rising order, where neighbours that are the same are one."""
+    """The pieces in rising order; neighbours that are the same are joined."""
     found: List[Piece] = []
     for it in sorted(pieces, key=lambda one: one.low):
         last = found[-1] if found else None
@@ -148,10 +148,20 @@ def constant(number: int, type_: Integer = INT) -> Value:
     return Value(type_, (Piece(NONE, GREATEST, NUMBER, type_.wrapped(number)),))
 
 
+def known(value: Value) -> Optional[Value]:
+    """The value, if it is a number whatever the last answer is."""
+    return value if value.constant() is not None else None
+
+
+def is_null(value: Optional[Known]) -> bool:
+    """Whether the value is 0, and so NULL as a pointer."""
+    return isinstance(value, Value) and value.constant() == 0
+
+
 def steady(value: Known) -> Known:
-    """A constant, whatever is answered later; any other value as it is."""
+    """A constant, whatever a later call returns; any other value as it is."""
     number = value.constant() if isinstance(value, Value) else None
-    return value if number is None else constant(number, value.type)
+    return constant(number, value.type) if isinstance(value, Value) and number is not None else value
 
 
 def lost(type_: Integer, why: Lost) -> Value:
@@ -186,7 +196,7 @@ def meeting(first: Answers, second: Answers) -> Meeting:
 
 
 def either(first: Known, second: Known, of: Meeting, local: str) -> Known:
-    """The value of a local of which one way says the first and another way the second: lost where both may be and differ."""
+    """The value of a local of which one way says the first and another way the second: lost if both may be and differ."""
     if isinstance(first, Stored) and isinstance(second, Stored) and first.name == second.name:
         return replace(first, missing=first.among(of.first).missing or second.among(of.second).missing)
     if not isinstance(first, Value) or not isinstance(second, Value):
@@ -242,7 +252,7 @@ def converted_piece(piece: Piece, type_: Integer) -> List[Piece]:
 
 
 def converted_lost(piece: Piece, type_: Integer) -> Piece:
-    """What is known of a lost number stays known where its type can keep it."""
+    """What is known of a lost number stays known if its type can keep it."""
     among = piece.among
     if type_ == BOOL and among:
         decided = decide("!=", among, answers((0, 0)))
@@ -262,14 +272,14 @@ def decide(operator: str, left: Answers, right: Answers) -> Optional[bool]:
 
 
 def compared_piece(piece: Piece, number: int, holds: Callable[[int, int], bool]) -> List[Piece]:
-    """1 where the comparison with the number holds, and 0 elsewhere."""
+    """1 for the answers for which the comparison with the number holds, and 0 for the others."""
     at = number - piece.number
     parts = [(piece.low, min(piece.high, at - 1)), (max(piece.low, at), min(piece.high, at)), (max(piece.low, at + 1), piece.high)]
     return [Piece(low, high, NUMBER, int(holds(piece.at(low), number))) for low, high in parts if low <= high]
 
 
 def binary(operator: str, left: Value, right: Value, known: Answers) -> Value:
-    """What C computes; lost where a script can't say it without a variable."""
+    """What C computes; lost if a script can't say it without a variable."""
     left, right = left.among(known), right.among(known)
     if operator in SHIFTS:
         type_ = promoted(left.type)
@@ -336,7 +346,7 @@ def truth(value: Value, known: Answers) -> Answers:
 
 
 def after_an_answer(known: Known, before: Answers, local: str, by: str, at: Place) -> Known:
-    """What is left of a local when another call answers, at this place: constants."""
+    """What is left of a local after another call, at this place: constants."""
     if isinstance(known, Stored):
         missing = known.among(before).missing
         return replace(known, missing=None) if missing is None else lost(known.type, missing)
@@ -352,7 +362,7 @@ def after_an_answer(known: Known, before: Answers, local: str, by: str, at: Plac
         reason = Lost(f"`{name}` holds an answer from before {by}, and a script keeps its last answer only", local, at,
                       "a test right after its call; for a time, `xTaskGetTickCount() - t` in the test itself")
     sets = [it.numbers() for it in now.pieces]
-    among = answers(*(one for it in sets for one in it.ranges)) if all(sets) else None
+    among = answers(*(one for it in sets if it for one in it.ranges)) if all(sets) else None
     return Value(known.type, (Piece(NONE, GREATEST, LOST, 0, reason, among),))
 
 

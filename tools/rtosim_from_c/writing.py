@@ -7,11 +7,13 @@ from typing import Dict, Iterator, List, Sequence, Tuple
 from rtosim_report.escaping import plain
 from rtosim_report.faults import counted
 
+from .interrupts import is_disarmed
 from .items import Line
 from .refusals import Note, Place, Refusal
 from .source import Lines, without_comments
 from .translating import Application
-from .unit import Unit
+from .trees import Node
+from .unit import Task, Unit
 
 WIDTH = 110
 OP_COLUMNS = 32
@@ -30,13 +32,17 @@ def application_text(found: Application, name: str) -> str:
             lines += [f"{key} = {it.numbers.get(key, 0)}" for key in keys]
     for name, initial in found.variables():
         lines += ["", "[[variable]]", f'name = "{name}"', *([f"initial = {initial}"] if initial else [])]
-    for it in found.handlers:
-        lines += ["", "[[handler]]", named(it.owner.name, it.owner.place, found.unit.lines)]
-        lines += array("ops", it.lines, found.unit.lines)
-    for it in found.tasks:
-        lines += ["", "[[task]]", named(it.owner.name, it.owner.place, found.unit.lines), f"priority = {it.owner.priority}"]
-        lines += ["endless = true"] if it.is_endless else []
-        lines += array("script", it.lines, found.unit.lines)
+    texts = [line.text for script in (*found.handlers, *found.tasks) for line in script.lines]
+    for script in found.handlers:
+        lines += ["", "[[handler]]", named(script.owner.name, script.owner.place, found.unit.lines)]
+        lines += ["armed = false"] if is_disarmed(found.unit, script.owner.name, texts) else []
+        lines += array("ops", script.lines, found.unit.lines)
+    for script in found.tasks:
+        task = script.owner
+        assert isinstance(task, Task), task
+        lines += ["", "[[task]]", named(task.name, task.place, found.unit.lines), f"priority = {task.priority}"]
+        lines += ["endless = true"] if script.is_endless else []
+        lines += array("script", script.lines, found.unit.lines)
     return "\n".join([*lines, *tail_of(found)]) + "\n"
 
 
@@ -122,14 +128,14 @@ def map_text(found: Application, name: str) -> str:
     }, indent=1) + "\n"
 
 
-def entry(line: Line, lines: Lines) -> Dict[str, object]:
-    found: Dict[str, object] = {"op": line.text, **at(line.place, lines)}
+def entry(line: Line, lines: Lines) -> Dict[str, Node]:
+    found: Dict[str, Node] = {"op": line.text, **at(line.place, lines)}
     if line.place.calls:
         found["called_from"] = list(line.place.calls)
     return found
 
 
-def at(place: Place, lines: Lines) -> Dict[str, object]:
+def at(place: Place, lines: Lines) -> Dict[str, Node]:
     text = lines.line(place.file, place.line).strip()
     return {"file": place.file, "line": place.line, "column": place.column, "text": text}
 
@@ -143,7 +149,7 @@ def note_text(note: Note, name: str) -> str:
 
 def in_order(notes: Sequence[Note]) -> List[Note]:
     key = lambda it: (it.place is None, (it.place.file, it.place.line, it.place.column) if it.place else ("", 0, 0))
-    found: Dict[Tuple[object, str], Note] = {}
+    found: Dict[Tuple[Node, str], Note] = {}
     for it in sorted(notes, key=key):
         found.setdefault((key(it), it.text), it)
     return list(found.values())

@@ -10,8 +10,11 @@ from .escaping import plain
 from .faults import Fault
 from .report import TICK
 
+# The ops about when handlers come.
+ARMS, DISARMS, RAISES, CANCELS = "arm", "disarm", "raise", "cancel"
+OF_HANDLERS = {ARMS, DISARMS, RAISES, CANCELS}
 # Words of ops for which no line names them.
-SILENT_WORDS = {"work", "mark", "expect", "repeat", "end", "if", "else", "break", "stamp", "enter_critical", "exit_critical"}
+SILENT_WORDS = {"work", "mark", "expect", "repeat", "end", "if", "else", "break", "stamp", "enter_critical", "exit_critical", *OF_HANDLERS}
 # The ops on the last answer, whose second word is a number or the name of a variable.
 ARITHMETIC = {"add", "sub", "mul", "div", "mod", "and", "or", "xor"}
 # The word for the last answer, and the ops in which it may be in the place of a number.
@@ -72,6 +75,9 @@ class Script(NamedTuple):
     ops: List[Op]
     is_endless: bool = False
     priority: int = 0
+    # Of a handler: whether it is armed at reset, and after how many elapsed ticks it can be injected again.
+    is_armed: bool = True
+    apart: int = 0
 
     def op(self, index: int) -> Optional[Op]:
         return self.ops[index] if 0 <= index < len(self.ops) else None
@@ -101,6 +107,15 @@ class Application(NamedTuple):
     ignored: List[str] = []
     has_campaign: bool = False
     variables: Dict[str, int] = {}
+    # The base interrupts in the order of the file, each its tick and its handler.
+    interrupts: List[Tuple[int, str]] = []
+
+    @property
+    def has_arrivals(self) -> bool:
+        """Whether a handler can't come at some moment, or is raised."""
+        scripts = [*self.tasks.values(), *self.handlers.values()]
+        return any(not it.is_armed or it.apart for it in self.handlers.values()) or any(
+            op.word in OF_HANDLERS for script in scripts for op in script.ops)
 
     def script(self, name: str) -> Optional[Script]:
         return self.tasks.get(name) or self.handlers.get(name)
@@ -153,7 +168,8 @@ def read_application(name: str) -> Application:
                        number_of(document, "start"), sorted({number_of(it, "tick") for it in entries(document, "interrupt")}),
                        [str(it.get("name")) for section in OBJECTS for it in entries(document, section)], ignored,
                        isinstance(document.get("campaign"), dict),
-                       {str(it.get("name")): number_of(it, "initial") for it in entries(document, "variable")})
+                       {str(it.get("name")): number_of(it, "initial") for it in entries(document, "variable")},
+                       [(number_of(it, "tick"), str(it.get("handler"))) for it in entries(document, "interrupt")])
 
 
 def document_of(text: str) -> Tuple[dict, List[str]]:
@@ -201,7 +217,7 @@ def script_of(entry: Dict[str, Any], key: str) -> Script:
     ops = entry.get(key, [])
     texts = [it for it in ops if isinstance(it, str)] if isinstance(ops, list) else []
     return Script(str(entry.get("name")), [Op(it.split(), getattr(it, "given_name", "")) for it in texts],
-                  entry.get("endless") is True, number_of(entry, "priority"))
+                  entry.get("endless") is True, number_of(entry, "priority"), entry.get("armed") is not False, number_of(entry, "apart"))
 
 
 def number_of(table: Dict[str, Any], key: str) -> int:

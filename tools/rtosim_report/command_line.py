@@ -42,11 +42,18 @@ def do_classes(job: Job, output: Output) -> int:
 
 
 def do_compare(words: argparse.Namespace, output: Output) -> bool:
-    """Reads both reports. Ops are named by their texts where both are of applications, otherwise by their numbers."""
+    """Reads both reports. Ops are named by their texts where both are of applications, otherwise by their numbers; and rows are classed by
+    their heads where either has no more of them."""
     from .comparing import write_changes
+    from .job import say
 
     both = all(it.endswith(APPLICATION) for it in (words.old, words.new))
     jobs = [Job(argparse.Namespace(**{**vars(words), **named(it)}), both) for it in (words.old, words.new)]
+    of_heads = [it for it in jobs if it.has_heads_alone or it.is_too_large()]
+    for it in jobs:
+        it.wants_heads = bool(of_heads)
+    if len(of_heads) == 1:
+        say(f"of {plain(of_heads[0].name)} heads alone are read, so the rows of both are classed by these")
     old, new = (it.classify() for it in jobs)
     return max(write_changes(output, old, new, jobs[1].given) > 0, jobs[1].is_empty())
 
@@ -66,7 +73,7 @@ def do_join(words: argparse.Namespace, output: Output) -> None:
 def do_pairs(words: argparse.Namespace, output: Output) -> None:
     """Writes the points of pairs. How many steps the base run has the program says."""
     from .application import read_application
-    from .faults import WordsFault
+    from .faults import WordsFault, counted
     from .job import say
     from .made import MadeReport
     from .pairs import write_pairs
@@ -79,7 +86,11 @@ def do_pairs(words: argparse.Namespace, output: Output) -> None:
     if unknown is not None:
         raise WordsFault(f"no handler is called {unknown}; the handlers are {', '.join(application.handlers) or 'none'}, and {TICK} is the tick interrupt")
     last = MadeReport(words.application).base().head.steps if words.last is None else words.last + 1
-    write_pairs(output, list(dict.fromkeys(words.handler)), range(words.first, last), words.within)
+    steps = range(words.first, last)
+    if not steps:
+        end = f"the base run has {counted(last, 'step')}" if words.last is None else f"--to is {words.last:,}"
+        raise WordsFault(f"no first step is left: --from is {words.first:,}, and {end}")
+    write_pairs(output, list(dict.fromkeys(words.handler)), steps, words.within)
 
 
 def do_show(job: Job, output: Output) -> None:
@@ -104,7 +115,7 @@ def do_explore(job: Job, output: Output) -> None:
 def do_json(job: Job, output: Output) -> None:
     from . import json_lines
 
-    write = json_lines.write_run if job.made or not job.source.has_heads_alone() else json_lines.write_head
+    write = json_lines.write_head if job.has_heads_alone else json_lines.write_run
     for run in job.whole_runs():
         write(output, run, job.source_map)
 
@@ -115,11 +126,11 @@ def do_junit(job: Job, output: Output) -> int:
     accepted = known.Known() if job.words.accept is None else known.read_names(job.words.accept)
     suite = junit.Suite(job.application or job.words.report or "standard input", job.given, accepted)
     classes = job.classify()
+    empty = job.faulty_emptiness()
     if job.words.rows and classes:
-        junit.write_rows(output, suite, job.heads(), junit.counts_of(classes))
+        junit.write_rows(output, suite, job.heads(), classes, empty)
         return 0
     lone_run = None if job.lone_run is None else junit.LoneRun(job.lone_run, job.ending, job.lone_name)
-    empty = None if job.words.allow_empty else job.emptiness()
     junit.write_classes(output, suite, classes, lone_run, empty)
     return 0 if job.words.accept is None else max(known.judged(job.failures(classes), accepted), job.is_empty())
 
@@ -177,7 +188,7 @@ def add_options(parser: argparse.ArgumentParser) -> None:
 
 
 def add_classes(commands: Commands) -> None:
-    parser = commands.add_parser("classes", help="the rows grouped by outcome: which points matter")
+    parser = commands.add_parser("classes", help="the rows grouped by cause: which points matter")
     add_common(parser)
     parser.add_argument("--exact", action="store_const", const=By.EXACT, dest="by", help="ticks count too")
     choices = [it for it in By if it is not By.DEFAULT]

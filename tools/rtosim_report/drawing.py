@@ -106,6 +106,16 @@ class Labels:
                 return
         self.fold(text)
 
+    def add_kept(self, left: float, text: str, classes: str = "") -> None:
+        """A text that is shown in any case. Where there is no room, those that are in its place are counted behind it."""
+        left = min(left, self.limit - width_of(text + " +99"))
+        row = min(self.rows, key=lambda row: sum(left < it.end + self.GAP for it in row))
+        kept = Label(left, text, classes)
+        while row and left < row[-1].end + self.GAP:
+            last = row.pop()
+            kept.folded[:0] = [last.text, *last.folded]
+        row.append(kept)
+
     def fold(self, text: str) -> None:
         """A text that isn't shown."""
         row = min((it for it in self.rows if it), key=lambda it: it[-1].end, default=None)

@@ -8,7 +8,8 @@ from typing import Any, Callable, Iterator, List, Optional, Tuple
 from .application import Application, read_application
 from .base_run import BaseRun, find_base, given_base, tail_of_row
 from .classes import By, Classifier, OutcomeClass
-from .emptiness import emptiness_of
+from .differences import difference
+from .emptiness import Emptiness, emptiness_of, failing_left_out
 from .end_state import EndState, state_of
 from .endings import Endings
 from .escaping import plain
@@ -50,20 +51,37 @@ class Job:
         self.lone_run: Any = None
         self.ending: List[str] = []
         self.lone_name = ""
-        # What the total line counts, and what there is to say of rows that aren't looked at whole.
-        self.total = Tally()
+        # Whether rows are classed by their heads, though there may be more of them.
+        self.wants_heads = False
+        # What the total line counts, how many rows that fail it counts and the report doesn't have, and what there is to say of rows that
+        # aren't looked at whole.
+        self.total, self.left_out = Tally(), 0
         self.notes: List[str] = []
         self.asked = 0 if is_made and words.asks_for_states else MOST_ASKED
         self.endings = Endings(self.texts, self.ask_for_state, self.source_map)
 
     @property
     def given(self) -> Given:
-        return Given(self.application, self.words.report, self.words.base, self.takes_points)
+        return Given(self.application, self.words.report, self.words.base, self.takes_points, self.has_heads_alone)
+
+    @property
+    def has_heads_alone(self) -> bool:
+        """Whether it is a report that is named and has heads alone."""
+        return self.made is None and self.source.has_heads_alone()
 
     @property
     def takes_points(self) -> bool:
         """Whether there is a program that runs a point of several injections, which is asked if there are such rows."""
         return self.made is not None and self.made.has_several and takes_points()
+
+    @property
+    def name(self) -> str:
+        """What the words name."""
+        return self.words.report or self.application or "standard input"
+
+    def is_too_large(self) -> bool:
+        """Whether the rows that fail are too large for the program to make them whole."""
+        return self.made is not None and not self.made.plan(False, self.made.survey(True)).failing
 
     def open_source(self) -> Source:
         if self.words.report in (None, "-"):
@@ -99,13 +117,18 @@ class Job:
             return failures_of(classes)
         return [Failure(self.lone_name), *failures_of(classes)]
 
-    def emptiness(self) -> Any:
+    def emptiness(self) -> Optional[Emptiness]:
         """Why nothing is tested, if that is so."""
-        return emptiness_of(self.total, self.is_of_a_run)
+        return emptiness_of(self.total, self.is_of_a_run, self.left_out)
+
+    def faulty_emptiness(self) -> Optional[Emptiness]:
+        """Why nothing is tested, if that may not be."""
+        found = self.emptiness()
+        return None if found is not None and found.may_be and self.words.allow_empty else found
 
     def is_empty(self) -> bool:
         """Whether nothing is tested, which is named on standard error, and may not be."""
-        found = None if self.words.allow_empty else self.emptiness()
+        found = self.faulty_emptiness()
         if found is not None:
             say(found.line())
         return found is not None
@@ -119,6 +142,7 @@ class Job:
         if reader.is_cut_off:
             say(f"the report is cut off: {counted(reader.tally.rows, 'whole row')}")
         self.total = reader.total or reader.tally
+        self.left_out = failing_left_out(self.total, reader.tally)
 
     def read(self, reader: Reader) -> Iterator[Run]:
         try:
@@ -169,7 +193,7 @@ class Job:
         elif self.made:
             self.base = self.made.base()
         else:
-            self.base = None if self.source.has_heads_alone() else find_base(self.source)
+            self.base = None if self.has_heads_alone else find_base(self.source)
         return self.base
 
     # -- classes
@@ -189,13 +213,13 @@ class Job:
         return self.words.whole or not (self.words.folds or getattr(self.words, "failing", False))
 
     def classify_named(self, classifier: Classifier, see: Optional[Callable[..., Any]]) -> None:
-        heads_alone = self.words.by is By.VERDICT or self.source.has_heads_alone()
+        heads_alone = self.wants_heads or self.words.by is By.VERDICT
         for run in self.runs():
             if run.head.row is None:
                 run.checked_lines()
                 self.take_lone_run(run, classifier)
                 continue
-            if self.source.has_heads_alone():
+            if self.has_heads_alone:
                 found = classifier.add_head(run)
             elif heads_alone or run.head.verdict.passes and not self.wants_passing:
                 classifier.check(run)
@@ -204,7 +228,7 @@ class Job:
                 found = classifier.add(run)
             if see:
                 see(run, found)
-        if self.total.rows and self.source.has_heads_alone() and self.words.by is not By.VERDICT:
+        if self.total.rows and self.has_heads_alone and self.words.by is not By.VERDICT:
             self.notes.append("the report has heads alone (--heads), so rows are classed by these")
 
     def classify_made(self, classifier: Classifier, see: Optional[Callable[..., Any]]) -> None:
@@ -215,8 +239,8 @@ class Job:
         if not survey.total.rows:
             self.take_lone_run(self.base.run(), classifier)
             return
-        plan = HEADS_ONLY if by_heads else self.made.plan(self.wants_passing, survey)
-        if not by_heads:
+        plan = HEADS_ONLY if by_heads or self.wants_heads else self.made.plan(self.wants_passing, survey)
+        if not by_heads and not self.wants_heads:
             for it in self.made.needs(plan, survey, self.wants_passing):
                 say(it)
         for run in self.made.runs(plan, survey) if is_complete else self.failing_runs(plan):
@@ -237,10 +261,12 @@ class Job:
         self.ending, self.lone_name = self.endings.lines_of(run), f"{BASE_RUN}: {classifier.causes.end_of(run)}"
 
     def with_endings(self, classes: List[OutcomeClass]) -> List[OutcomeClass]:
-        """The classes. What the first row says at its end is looked for in those that were made of heads."""
+        """The classes. Of those that were made of heads and fail the first row is looked at: what differs in it, and what it says at its end."""
         for it in classes:
             if self.made and it.is_by_head and not it.verdict.passes and self.words.by is not By.VERDICT and not it.ending:
-                it.ending = self.endings.lines_of(self.made.row(it.first.row), self.base)
+                run = self.made.row(it.first.row)
+                it.what_differs = difference(run, *tail_of_row(run, self.base), self.base).words
+                it.ending = self.endings.lines_of(run, self.base)
         return classes
 
     # -- one run
@@ -250,7 +276,7 @@ class Job:
         base = self.find_base()
         if self.made:
             return (None if row is None else self.made.row(row)), base
-        if row is not None and self.source.has_heads_alone():
+        if row is not None and self.has_heads_alone:
             raise Fault(HEADS_ALONE)
         wanted, rows = None, 0
         for run in self.runs():

@@ -123,13 +123,17 @@ def write_classes(output: Output, suite: Suite, classes: List[OutcomeClass], lon
     cases = [Case(Failure(it.name, it.rows), it.verdict, class_text(it, suite)) for it in classes]
     if not classes and lone_run is not None:
         cases.append(lone_run.case())
-    if empty is not None:
-        cases.append(Case(Failure(empty.name), EMPTY, empty.line()))
+    cases += case_of_nothing(empty)
     skipped = sum(it.is_skipped(suite) for it in cases)
     write_start(output, suite, Counts(len(cases), sum(it.fails for it in cases) - skipped, skipped))
     for it in cases:
         write_case(output, suite, it)
     write_end(output)
+
+
+def case_of_nothing(empty: Optional[Emptiness]) -> List[Case]:
+    """The case that says why nothing is tested, where that is so."""
+    return [] if empty is None else [Case(Failure(empty.name), EMPTY, empty.line())]
 
 
 def class_text(it: OutcomeClass, suite: Suite) -> str:
@@ -138,17 +142,21 @@ def class_text(it: OutcomeClass, suite: Suite) -> str:
     return "\n".join(lines)
 
 
-def counts_of(classes: List[OutcomeClass]) -> Counts:
-    """The counts of single rows."""
-    return Counts(sum(it.rows for it in classes), sum(it.rows for it in classes if not it.verdict.passes))
+def counts_of(classes: List[OutcomeClass], empty: Optional[Emptiness] = None) -> Counts:
+    """The counts of single rows, and of the case that says why nothing is tested."""
+    more = len(case_of_nothing(empty))
+    return Counts(sum(it.rows for it in classes) + more, sum(it.rows for it in classes if not it.verdict.passes) + more)
 
 
-def write_rows(output: Output, suite: Suite, runs: Iterable[Any], counts: Counts) -> None:
-    write_start(output, suite, counts)
+def write_rows(output: Output, suite: Suite, runs: Iterable[Any], classes: List[OutcomeClass], empty: Optional[Emptiness] = None) -> None:
+    """A case for each row; and one that says why nothing is tested, where that is so."""
+    write_start(output, suite, counts_of(classes, empty))
     for run in runs:
         head = run.head
         if head.row is not None:
             command = command_of(head, suite.given)
             name = f"row {head.row} at {head.point.text()}"
             write_case(output, suite, Case(Failure(name), head.verdict, f"{head.text()}\n{command}"))
+    for it in case_of_nothing(empty):
+        write_case(output, suite, it)
     write_end(output)

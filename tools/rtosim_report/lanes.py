@@ -33,6 +33,8 @@ class WindowKind(enum.Enum):
     LOCKED = "the queue is locked"
     HELD = "the scheduler is held"
     MASKED = "interrupts are masked"
+    ARMED = "the interrupt is armed"
+    RAISED = "the interrupt is raised"
 
 
 @dataclass(frozen=True)
@@ -108,6 +110,10 @@ class Clock:
             return self.ticks[at]
         first, last = self.boundaries[at], self.boundaries[at + 1]
         return self.ticks[at] + (self.ticks[at + 1] - self.ticks[at]) * (boundary - first) / (last - first)
+
+    def next(self, boundary: int) -> int:
+        """The elapsed ticks at the first boundary from this one on at which lines show them."""
+        return self.ticks[min(bisect.bisect_left(self.boundaries, boundary), len(self.ticks) - 1)]
 
     def silent_steps(self, start: int, end: int) -> int:
         """How many of the steps between the two were no ticks."""

@@ -22,9 +22,11 @@ PASSING, FAILING = True, False
 
 
 class Survey:
-    """What the heads of a campaign show: how many rows there are, and the numbers and the steps of those that were looked at."""
+    """What the heads of a campaign show: how many rows there are, and the numbers and the steps of those that were looked at, with those
+    that pass or without."""
 
-    def __init__(self) -> None:
+    def __init__(self, has_passing: bool = True) -> None:
+        self.has_passing = has_passing
         self.total = Tally()
         self.rows: Dict[bool, array] = {PASSING: array("L"), FAILING: array("L")}
         self.steps: Dict[bool, array] = {PASSING: array("L"), FAILING: array("L")}
@@ -72,8 +74,10 @@ class MadeReport:
         return self.known_base
 
     def survey(self, with_passing: bool) -> Survey:
-        """The heads, or those of rows that fail alone."""
-        found = Survey()
+        """The heads, or those of rows that fail alone. It is made once."""
+        if self.surveyed is not None and (self.surveyed.has_passing or not with_passing):
+            return self.surveyed
+        found = Survey(with_passing)
         reader = self.campaign(*([] if with_passing else ["--only", "failing"]), "--heads")
         for run in reader:
             found.add(run.head)

@@ -30,14 +30,16 @@ class Moments:
     def words_of_row(self, run: Run) -> Iterator[str]:
         place, size = self.whereabouts.place_before(run)
         lines, at = run.lines(), run.text.count(b"\n", 0, size)
-        for step, injections in groups_of(run.head.point):
+        groups = groups_of(run.head.point)
+        for step, injections in groups:
             position = position_of(lines, step)
             if step >= run.head.steps:
                 return
             take(place, lines[at:position])
             at = position
             names = list(dict.fromkeys("the tick" if self.application.is_tick(it.handler) else it.handler for it in injections))
-            who = f"{' and '.join(names)} come{'s' * (len(names) == 1)}"
+            which = f" (before step {step})" if len(groups) > 1 else ""
+            who = f"{' and '.join(names)}{which} come{'s' * (len(names) == 1)}"
             yield from self.words_of_moment(who, self.runner(lines[:position]), place, lines[position:])
 
     def runner(self, lines: List[Line]) -> Optional[str]:

@@ -16,7 +16,8 @@ from .subticks import SubTicks
 MILLISECOND, MICROSECOND = 1000, 1
 MOST_MILLISECONDS = (1 << 63) // 1_000_000
 PROCESS = 1
-WINDOWS = {WindowKind.LOCKED: "queue locked", WindowKind.HELD: "scheduler held", WindowKind.MASKED: "interrupts masked"}
+WINDOWS = {WindowKind.LOCKED: "queue locked", WindowKind.HELD: "scheduler held", WindowKind.MASKED: "interrupts masked",
+           WindowKind.ARMED: "armed", WindowKind.RAISED: "raised"}
 
 
 def write(output: Output, timeline: Timeline) -> None:

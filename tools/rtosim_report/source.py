@@ -24,8 +24,8 @@ STATUSES_OF_REPORTS = (0, 1)
 BLOCK = 1 << 17
 # A line of totals, and a head, have no more bytes.
 LONGEST_TOTAL = 200
-# The end of a run that has a line, since the processor changes in it.
-HAS_STEPS = re.compile(rb": (?:not reached, )?(?:pass|stuck) in [1-9]")
+# The end of the head of a run that has steps.
+HAS_STEPS = re.compile(rb" in [1-9][0-9]* steps, ")
 FIRST_ROW = re.compile(rb"row ([0-9]{1,7}) at ")
 
 
@@ -61,7 +61,8 @@ class Source:
         return self.known
 
     def has_heads_alone(self) -> bool:
-        """Whether no row has a line, though one has steps after which there is one."""
+        """Whether no row has a line, though one has steps. A run without a call and a change of the processor is none that anyone injects
+        handlers into."""
         self.numbering()
         return self.is_of_heads
 

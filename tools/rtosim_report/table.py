@@ -18,12 +18,13 @@ BASE_FAILS = "the base run fails so too, without an injection"
 
 
 class Given(NamedTuple):
-    """What the words name: the application's file, the report, and that of the base run."""
+    """What the words name: the application's file, the report, and that of the base run; and whether the report has heads alone."""
 
     application: Optional[str] = None
     report: Optional[str] = None
     base: Optional[str] = None
     takes_points: bool = False
+    has_heads_alone: bool = False
 
 
 def command_of(head: Head, given: Given) -> str:
@@ -35,7 +36,7 @@ def command_of(head: Head, given: Given) -> str:
     words = " ".join(map(shell_word, found))
     if given.application is not None:
         return f"rtosim run {shell_word(given.application)} {words}"
-    if given.report is None or given.report == "-":
+    if given.report is None or given.report == "-" or given.has_heads_alone:
         return words
     base = f" --base {shell_word(given.base)}" if given.base else ""
     return f"rtosim-report show {head.row} {shell_word(given.report)}{base}"
@@ -54,7 +55,7 @@ def words_of(it: OutcomeClass) -> List[str]:
     """The cause, where it says more than the verdict, what differs in the first row, and what that says at its end."""
     lines = [it.name] if it.is_by_cause and it.name != it.verdict.text else []
     if it.is_by_head:
-        return [*lines, *it.ending]
+        return [*lines, *([it.what_differs] if it.what_differs else []), *it.ending]
     return [*lines, what_differs(it) if not lines else (it.what_differs or AS_BASE), *it.ending]
 
 
@@ -116,7 +117,8 @@ def write_classes(output: Output, classes: List[OutcomeClass], base: BaseRun, to
     shown = [it for it in classes if not (failing and it.verdict.passes)]
     passing = total.by_kind["pass"]
     if failing and total.rows:
-        output.line(f"{counted(total.rows, 'row')}: {passing:,} pass, {total.rows - passing:,} fail in {counted(len(shown), 'class')}; {base_words(base, total.rows)}")
+        rows = counted(total.rows, "row") + (f", {total.not_reached:,} of them not reached" if total.not_reached else "")
+        output.line(f"{rows}: {passing:,} pass, {total.rows - passing:,} fail in {counted(len(shown), 'class')}; {base_words(base, total.rows)}")
     else:
         output.line(f"{counted(total.rows, 'row')} in {counted(len(classes), 'class')}; {base_words(base, total.rows)}")
     for note in notes:

@@ -5,7 +5,7 @@ known, isn't drawn."""
 from __future__ import annotations
 
 from itertools import combinations
-from typing import AbstractSet, Any, Dict, Iterator, List, Optional, Set, Tuple
+from typing import AbstractSet, Any, Dict, Iterator, List, Optional, Sequence, Set, Tuple
 
 from .application import Application
 from .away import UNNAMED, AwayTimes
@@ -17,6 +17,7 @@ from .lanes import Bar, Doing, Lane, LaneKind, Note, Timeline, Window, WindowKin
 from .op_times import Stretch
 from .reading import Run
 from .report import Event, Head, IDLE, Injection, Kind, Line, Point, TICK, event_of
+from .sources import Followed, follow
 from .suspensions import changes_of
 from .variables import History
 from .windows import windows_of_calls, windows_of_sections, windows_of_waits
@@ -185,14 +186,18 @@ class Builder:
         waits, endings, ops = self.away(None if daemon is None else daemon.lane)
         self.is_contradicted |= self.leaves_a_script(ops)
         windows = self.windows(waits, ops)
+        followed = follow(self, ops)
+        self.is_contradicted |= followed is None and self.application is not None and self.application.has_arrivals
+        come = self.injections() if followed is None else followed.come
+        windows += [] if followed is None else self.windows_of_sources(followed)
         if daemon is not None:
             waits += daemon.bars(UNNAMED not in self.lanes)
             windows += daemon.windows
-        bars = [it for it in self.turns if it.end > it.start] + waits + list(dict.fromkeys(self.pending(windows)))
-        used = {it.lane for it in bars} | {it.lane for it in self.notes}
+        bars = [it for it in self.turns if it.end > it.start] + waits + list(dict.fromkeys(self.pending(windows, come)))
+        used = {it.lane for it in bars} | {it.lane for it in self.notes} | {it.lane for it in windows}
         lanes = [it for it in self.lanes.values() if it in used or it.name != UNNAMED]
         variables = {name: self.history.stretches(name, self.head.steps) for name in self.history.starts}
-        return Timeline(self.head, lanes, bars, self.notes, windows, self.clock, self.injections(),
+        return Timeline(self.head, lanes, bars, self.notes, windows, self.clock, come,
                         endings, ops, variables)
 
     @property
@@ -201,7 +206,8 @@ class Builder:
         return self.head.verdict.passes and self.turns[-1].lane.kind is LaneKind.IDLE
 
     def injections(self) -> Tuple[Injection, ...]:
-        """Those that come: the first one where the point is reached, a later one where the run isn't over before its step."""
+        """Those that come if their handlers can: the first one where the point is reached, a later one where the run isn't over before its
+        step."""
         if self.head.point is None or not self.head.is_reached:
             return ()
         return tuple(it for it in self.head.point if it.step < self.head.steps)
@@ -252,13 +258,19 @@ class Builder:
         sections = windows_of_sections(ops, self.application, self.head.steps)
         return windows_of_waits(waits, self.head.steps) + windows_of_calls(self.notes, self.head.steps) + sections
 
-    def pending(self, windows: List[Window]) -> Iterator[Bar]:
+    def windows_of_sources(self, followed: Followed) -> List[Window]:
+        """When handlers are armed and raised, in their lanes."""
+        lane_of = lambda name: self.lanes.setdefault(name, Lane(name, LaneKind.HANDLER))
+        kinds = ((WindowKind.ARMED, followed.armed), (WindowKind.RAISED, followed.raised))
+        return [Window(lane_of(it.handler), it.start, it.end, kind) for kind, stretches in kinds for it in stretches]
+
+    def pending(self, windows: List[Window], come: Sequence[Injection]) -> Iterator[Bar]:
         """From where handlers were injected in a critical section to where they came, or to the run's end: by the sections where they are
         known, otherwise by the handlers' lines."""
         masked = [it for it in windows if it.kind is WindowKind.MASKED]
         if self.application is not None and not self.application.has_sections:
             return
-        for it in self.injections():
+        for it in come:
             open_there = next((window for window in masked if window.start <= it.step < window.end), None)
             end = open_there.end if open_there is not None else self.arrivals.get(it, it.step)
             lane = self.lanes.setdefault(it.handler, Lane(it.handler, LaneKind.HANDLER)) if end > it.step else None

@@ -6,14 +6,16 @@ import math
 import textwrap
 from dataclasses import dataclass
 from itertools import groupby
-from typing import Any, Iterator, List, Sequence, Tuple
+from typing import Any, Iterator, List, Optional, Sequence, Tuple
 
 from . import drawing, variables_picture
 from .drawing import Labels
 from .injections import groups_of
 from .lanes import Bar, Doing, Lane, LaneKind, Note, Timeline, Window, WindowKind
 from .output import Text as Output
+from .report import Kind
 
+# What is left free on the right is at least so much.
 PLOT, RIGHT, TOP = 1080, 24, 58
 WIDEST_STEP, NARROWEST_STEP, MOST_BANDS, MOST_DETAILS = 54, 6, 16, 3
 LABEL_ROW, BAR, LANE_GAP, AXIS, BAND_GAP = 14, 14, 12, 40, 18
@@ -37,6 +39,11 @@ STYLES = [
     (".injection", "stroke:#b3261e;stroke-width:1.5;stroke-dasharray:4 3", "stroke:#ff8a80"),
     (".injected", "fill:#b3261e", "fill:#ff8a80"),
 ]
+# Those of a run whose handlers are armed or raised.
+SOURCE_STYLES = [
+    (".armed", "fill:#be5a00", "fill:#f0a35e"),
+    (".raised", "fill:#0369a1", "fill:#7dd3fc"),
+]
 # Those of a run with critical sections.
 SECTION_STYLES = [
     (".masked", "fill:#0f766e", "fill:#5eead4"),
@@ -47,12 +54,14 @@ CLASSES = {
     Doing.PENDING: "pending",
 }
 # Of each kind of window its class, and how far below the bar it is.
-WINDOWS = {WindowKind.LOCKED: ("locked", 1), WindowKind.HELD: ("held", 5), WindowKind.MASKED: ("masked", 1)}
+WINDOWS = {WindowKind.LOCKED: ("locked", 1), WindowKind.HELD: ("held", 5), WindowKind.MASKED: ("masked", 1),
+           WindowKind.ARMED: ("armed", 1), WindowKind.RAISED: ("raised", 5)}
 LEGEND = [
     ("runs", "runs"), ("waits", "waits in a call"), ("sleeps", "sleeps"), ("suspended", "suspended"),
     ("ready", "Ready"), ("ended", "ended"), ("idle", "idle runs"), ("locked", "queue locked"), ("held", "scheduler held"), ("injected", "injected"),
 ]
 SECTION_LEGEND = [("masked", "masked"), ("pending", "pending")]
+SOURCE_LEGEND = [("armed", "armed"), ("raised", "raised")]
 
 
 @dataclass
@@ -61,6 +70,7 @@ class Layout:
 
     timeline: Timeline
     left: float
+    right: float
     # The first step of each band, and the one behind its last. They may have steps in common.
     spans: List[Tuple[int, int]]
     lane_tops: List[float]
@@ -106,7 +116,7 @@ class Layout:
 
     @property
     def width(self) -> float:
-        return self.left + PLOT + RIGHT
+        return self.left + PLOT + self.right
 
     @property
     def height(self) -> float:
@@ -133,9 +143,11 @@ def layout_of(timeline: Timeline) -> Layout:
     left = 22 + drawing.width_of("x" * max(margin, *map(len, names)))
     axis, variables_top = AXIS + AXIS_ROW * timeline.outlasts_printed_ticks, at
     at += variables_picture.height_of(timeline)
-    room = int((left + PLOT + RIGHT - 24) / drawing.CHARACTER)
+    # (the last number of the axis is below the end of the last step)
+    right = max(RIGHT, 4 + drawing.width_of("x" * widest) / 2)
+    room = int((left + PLOT + right - 24) / drawing.CHARACTER)
     ending = [line for it in timeline.ending for line in textwrap.wrap(it, room, break_on_hyphens=False)]
-    return Layout(timeline, left, spans_of(timeline), tops, variables_top, at + axis, axis, ending, source_of(timeline, room))
+    return Layout(timeline, left, right, spans_of(timeline), tops, variables_top, at + axis, axis, ending, source_of(timeline, room))
 
 
 def source_of(timeline: Timeline, room: int) -> List[str]:
@@ -174,7 +186,8 @@ def axis_numbers(timeline: Timeline, last: int) -> Iterator[str]:
 
 def write(output: Output, timeline: Timeline) -> None:
     layout = layout_of(timeline)
-    styles = STYLES + SECTION_STYLES * has_sections(timeline) + variables_picture.STYLES * bool(timeline.variables)
+    styles = STYLES + SECTION_STYLES * has_sections(timeline) + SOURCE_STYLES * has_sources(timeline)
+    styles += variables_picture.STYLES * bool(timeline.variables)
     drawing.start(output, layout.width, layout.height, styles, timeline.title())
     fails = "" if timeline.head.verdict.passes else " fails"
     output.line(drawing.label(12, 24, timeline.title(), "title" + fails))
@@ -196,9 +209,14 @@ def has_sections(timeline: Timeline) -> bool:
     return any(it.kind is WindowKind.MASKED for it in timeline.windows) or any(it.doing is Doing.PENDING for it in timeline.bars)
 
 
+def has_sources(timeline: Timeline) -> bool:
+    """Whether it is drawn when a handler is armed or raised."""
+    return any(it.kind in (WindowKind.ARMED, WindowKind.RAISED) for it in timeline.windows)
+
+
 def write_legend(output: Output, layout: Layout) -> None:
     at = 12.0
-    for name, text in LEGEND + SECTION_LEGEND * has_sections(layout.timeline):
+    for name, text in LEGEND + SECTION_LEGEND * has_sections(layout.timeline) + SOURCE_LEGEND * has_sources(layout.timeline):
         top, height = (40, 4) if name == "ready" else (36, 11)
         output.line(drawing.box(at, top, 5 if name == "ended" else 11, height, name))
         output.line(drawing.label(at + 16, 46, text, "quiet"))
@@ -312,7 +330,7 @@ def write_notes(output: Output, layout: Layout, index: int, notes: List[Note]) -
     for band in range(layout.bands):
         there = [it for it in notes if layout.overlaps(band, it.step, it.step)]
         if there:
-            labels = drawing.Labels(2, layout.left + PLOT + RIGHT - 4)
+            labels = drawing.Labels(2, layout.width - 4)
             write_marks(output, layout, index, band, there, labels)
             top = layout.bar_top(band, index)
             for row, it in labels.placed():
@@ -320,18 +338,28 @@ def write_notes(output: Output, layout: Layout, index: int, notes: List[Note]) -
 
 
 def write_marks(output: Output, layout: Layout, index: int, band: int, notes: List[Note], labels: Labels) -> None:
-    """The marks of one band. Those that can't be seen apart are one."""
-    marked, top = float("-inf"), layout.bar_top(band, index)
+    """The marks of one band. Those that can't be seen apart are one, but for that of the answer for which a check failed. That one's text, and
+    those of injected handlers, are shown in any case."""
+    marked, top, failing = float("-inf"), layout.bar_top(band, index), failing_note(layout.timeline)
     for (step, is_injected), group in groupby(notes, key=lambda it: (it.step, it.is_injected)):
-        told = ", ".join(layout.timeline.told(it) for it in group)
+        there = list(group)
+        told = ", ".join(layout.timeline.told(it) for it in there)
         at = layout.across(band, step + (0 if is_injected else 0.5))
-        if at - marked < LEAST_VISIBLE:
+        if at - marked < LEAST_VISIBLE and failing not in there:
             labels.fold(told)
             continue
         marked = at
         title = f"{layout.timeline.lanes[index].name}: {told}; {'before ' if is_injected else ''}step {step}"
         output.line(drawing.line(at, top - 3, at, top + BAR, "note", title))
-        labels.add(at + (5 if is_injected else -2), told, "injected" if is_injected else "")
+        add = labels.add_kept if is_injected or failing in there else labels.add
+        add(at + (5 if is_injected else -2), told, "injected" if is_injected else "")
+
+
+def failing_note(timeline: Timeline) -> Optional[Note]:
+    """The last answer of the task or handler whose check failed."""
+    verdict = timeline.head.verdict
+    answers = [it for it in timeline.notes if it.lane.name == verdict.task and it.event.kind in (Kind.CALL, Kind.ISR)]
+    return answers[-1] if verdict.kind == "check" and answers else None
 
 
 def write_failure(output: Output, layout: Layout) -> None:
@@ -371,4 +399,4 @@ def write_injection(output: Output, layout: Layout, band: int, step: int, text: 
 
 def left_of(layout: Layout, at: float, text: str) -> float:
     """Where a text at an injection begins: so far to the left that it ends within the picture."""
-    return min(at + 5, layout.left + PLOT + RIGHT - 4 - drawing.width_of(text))
+    return min(at + 5, layout.width - 4 - drawing.width_of(text))

@@ -143,11 +143,21 @@ def add_lane(dump: Dump, timeline: Timeline, times: SubTicks, lane: Lane) -> Non
             pending = dump.signal(lane.name, "pending")
             for bar in bars:
                 dump.while_on(pending, times.at(bar.start), times.at(bar.end))
+        add_sources(dump, timeline, times, lane)
     else:
         scope = lane.name if lane.kind is LaneKind.TASK else "idle"
         add_doing(dump, times, scope if scope != "(not named)" else "not_named", bars)
     if lane.kind is not LaneKind.IDLE and notes:
         add_answers(dump, times, lane, notes)
+
+
+def add_sources(dump: Dump, timeline: Timeline, times: SubTicks, lane: Lane) -> None:
+    """When a handler is armed and raised, if that changes."""
+    for kind, name in ((WindowKind.ARMED, "armed"), (WindowKind.RAISED, "raised")):
+        there = [it for it in timeline.windows if it.lane == lane and it.kind is kind]
+        signal = dump.signal(lane.name, name) if there else None
+        for it in sorted(there, key=lambda it: it.start):
+            dump.while_on(signal, times.at(it.start), times.at(it.end))
 
 
 def add_variable(dump: Dump, times: SubTicks, name: str, stretches: List[ValueStretch]) -> None:

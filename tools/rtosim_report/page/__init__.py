@@ -5,7 +5,7 @@ from .content import Content
 from .embedding import escaped
 
 HERE = os.path.dirname(os.path.realpath(__file__))
-SCRIPTS = ("model.js", "map.js", "lanes.js", "detail.js", "page.js")
+SCRIPTS = ("model.js", "map.js", "pairs.js", "lanes.js", "detail.js", "page.js")
 
 
 def write_page(output, job):

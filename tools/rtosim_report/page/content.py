@@ -15,7 +15,8 @@ from .embedding import json_text
 # A run of more lines is too long for a page.
 MOST_LINES = 20_000
 LONGEST_SLUG = 60
-# Of a run that is too long so many lines are shown around its injection, around the first difference, and at its end.
+# Of a run that is too long so many lines are shown around its injection, around the first difference, around its end, and at that of the
+# base run.
 AROUND = 150
 
 
@@ -75,7 +76,7 @@ class Content:
 
     def run_content(self, run):
         content = {"head": run.head.text(), "row": run.head.row}
-        if self.job.made is None and self.job.source.has_heads_alone():
+        if self.job.has_heads_alone:
             return {**content, "tooLong": 0}
         pairs = all_pairs(run, self.job.base)
         if len(pairs) > MOST_LINES:
@@ -189,12 +190,14 @@ class Content:
 
 
 def excerpt(pairs):
-    """The pairs around the injection, the first difference and the end; and before which of them how many others are left out."""
+    """The pairs around the injection, the first difference and the ends of the row and of the base run; and before which of them how many
+    others are left out."""
     marked = [at for at, it in enumerate(pairs) if it.mark is not Mark.SAME]
     differing = [at for at in marked if pairs[at].mark is not Mark.OWN]
+    ends = [at for at, it in enumerate(pairs) if it.row is not None][-1:]
     shown, folds, last = [], [], -1
     for at, it in enumerate(pairs):
-        if any(abs(at - there) <= AROUND for there in (*marked[:1], *differing[:1], len(pairs) - 1)):
+        if any(abs(at - there) <= AROUND for there in (*marked[:1], *differing[:1], *ends, len(pairs) - 1)):
             if at > last + 1:
                 folds.append([len(shown), at - last - 1])
             shown.append(it)

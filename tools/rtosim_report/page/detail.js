@@ -102,7 +102,7 @@ function runView(run, table) {
     if (!table) return found;
   }
   const box = element("div", { class: "lanes", id: "lanes", tabindex: 0 });
-  found.append(element("h3", {}, run.head), ...(run.lanes ? [legend(), box] : []));
+  found.append(element("h3", {}, run.head), ...(run.lanes ? [legend(run.lanes), box] : []));
   found.append(element("p", { class: "quiet", id: "at", role: "status" }));
   found.append(element("div", { class: "beside" }, element("div", { class: "scroll", tabindex: 0 }, table), scripts()));
   if (!run.lanes) return found;

@@ -3,10 +3,13 @@
 const BAR = 14, LABEL = 14, LANE_GAP = 12, VARIABLE_ROW = 22, PLOT_TOP = 22, WIDEST = 54, NARROWEST = 6, MOST_WIDE = 60000;
 const DOING = { runs: "runs", waits: "waits", sleeps: "sleeps", suspended: "is suspended", ready: "is Ready", pending: "is pending" };
 // Of each kind of window how far below the bar it is, and what is so.
-const WINDOWS = { locked: [1, "the queue is locked"], held: [5, "the scheduler is held"], masked: [1, "interrupts are masked"] };
+const WINDOWS = { locked: [1, "the queue is locked"], held: [5, "the scheduler is held"], masked: [1, "interrupts are masked"],
+  armed: [1, "the interrupt is armed"], raised: [5, "the interrupt is raised"] };
 const LEGEND = [["runs", "runs"], ["waits", "waits in a call"], ["sleeps", "sleeps"], ["suspended", "suspended"], ["ready", "Ready"],
   ["ended", "ended"], ["idle", "idle runs"], ["locked", "queue locked"], ["held", "scheduler held"], ["masked", "interrupts masked"],
-  ["pending", "pending"], ["mark-injected", "injected"]];
+  ["pending", "pending"], ["armed", "armed"], ["raised", "raised"], ["mark-injected", "injected"]];
+// Kinds of windows that are in the legend only if the run has them.
+const SELDOM = ["armed", "raised"];
 
 // The elapsed ticks at a boundary: those that are known, and between them evenly many.
 function tickAt([, boundaries, ticks], boundary) {
@@ -33,8 +36,9 @@ class Lanes {
     top += VARIABLE_ROW * run.variables.length;
     this.bottom = top;
     this.width = this.left + run.steps * this.stepWidth + 36;
-    // How far to the right what is reported goes.
-    this.needed = this.width;
+    // Where texts end at the latest, if they can: within the box, or where the run ends that is wider. How far to the right they go.
+    this.limit = Math.max(width - 16, this.width - 12);
+    this.needed = 0;
     this.svg = shape("svg", { width: this.width, height: top + 40, role: "img", "aria-label": "lanes of the run" });
     this.draw();
     this.svg.setAttribute("width", Math.max(this.width, this.needed + 12));
@@ -90,7 +94,9 @@ class Lanes {
       const at = this.across(step), tick = (clock[0] + tickAt(clock, step)) % 2 ** 32;
       this.svg.append(shape("line", { class: "rule", x1: at, x2: at, y1: PLOT_TOP - 6, y2: this.bottom + 2 }));
       for (const [value, below] of [[step, 14], [tick, 28]]) {
-        this.svg.append(shape("text", { class: "quiet", x: at, y: this.bottom + below, "text-anchor": "middle" }, value.toLocaleString("en")));
+        const text = value.toLocaleString("en");
+        this.needed = Math.max(this.needed, at + text.length * CHARACTER / 2);
+        this.svg.append(shape("text", { class: "quiet", x: at, y: this.bottom + below, "text-anchor": "middle" }, text));
       }
     }
   }
@@ -127,11 +133,13 @@ class Lanes {
       const [step, isInjected] = key.split(" ").map(Number), told = texts.join(", ");
       const at = this.across(step + (isInjected ? 0 : 0.5));
       this.svg.append(shape("line", { class: "note", x1: at, x2: at, y1: top - 3, y2: top + BAR }, null, `${told}; ${isInjected ? "before " : ""}step ${step}`));
-      const own = at + (isInjected ? 5 : -2), ends = rows.map(row => (row.length ? row[row.length - 1].end + 6 : 0));
-      const left = key === lastKey ? Math.max(own, Math.min(...ends)) : own;
-      const free = rows.find((_, index) => left >= ends[index]);
-      if (free) free.push({ left, told, isInjected, folded: 0, end: left + told.length * CHARACTER });
-      else {
+      const left = Math.min(at + (isInjected ? 5 : -2), this.limit - `${told} +99`.length * CHARACTER);
+      const isBefore = row => row.length > 0 && left < row[row.length - 1].end + 6;
+      const free = key === lastKey ? this.cleared(rows, isBefore) : rows.find(row => !isBefore(row));
+      if (free) {
+        const folded = free.gone || 0, shown = told + (folded ? ` +${folded}` : "");
+        free.push({ left, told, isInjected, folded, end: left + shown.length * CHARACTER });
+      } else {
         const last = rows.map(row => row[row.length - 1]).sort((one, other) => one.end - other.end)[0];
         last.folded += 1;
         last.end = last.left + `${last.told} +${last.folded}`.length * CHARACTER;
@@ -142,12 +150,25 @@ class Lanes {
       "text", { class: it.isInjected ? "injected" : "", x: it.left, y: top - 5 - index * LABEL }, it.told + (it.folded ? ` +${it.folded}` : "")))));
   }
 
+  // The row from which the fewest texts go, so that another one has room there; and how many are gone.
+  cleared(rows, isBefore) {
+    const left = rows.map(row => row.slice());
+    left.forEach(row => {
+      while (isBefore(row)) row.pop();
+    });
+    const index = rows[0].length - left[0].length <= rows[1].length - left[1].length ? 0 : 1;
+    const gone = rows[index].splice(left[index].length);
+    rows[index].gone = gone.reduce((sum, it) => sum + 1 + it.folded, 0);
+    return rows[index];
+  }
+
   drawInjections() {
     let free = -Infinity;
     for (const [step, handler] of this.run.injections) {
       const at = this.across(step), text = `${handler} before step ${step}`;
       this.svg.append(shape("line", { class: "injection", x1: at, x2: at, y1: 0, y2: this.bottom + 2 }, null, text));
-      const left = Math.max(at + 5, free);
+      const left = Math.max(Math.min(at + 5, this.limit - text.length * CHARACTER), free);
+      this.needed = Math.max(this.needed, left + text.length * CHARACTER);
       this.svg.append(shape("text", { class: "injected", x: left, y: 12 }, text));
       free = left + text.length * CHARACTER + 12;
     }
@@ -165,8 +186,9 @@ class Lanes {
   }
 }
 
-function legend() {
-  return element("div", { class: "legend quiet" }, ...LEGEND.map(([style, text]) => {
+function legend(run) {
+  const there = new Set(run.windows.map(([, , , kind]) => kind));
+  return element("div", { class: "legend quiet" }, ...LEGEND.filter(([style]) => !SELDOM.includes(style) || there.has(style)).map(([style, text]) => {
     const sign = shape("svg", { viewBox: "0 0 11 11", "aria-hidden": "true" });
     sign.append(shape("rect", { class: style, width: style === "ended" ? 4 : 11, height: style === "ready" ? 4 : 11, y: style === "ready" ? 4 : 0 }));
     return element("span", {}, sign, text);

@@ -66,12 +66,17 @@ function chooseLinked() {
   else choose(wanted === "base-run" ? null : data.classes[0] || null, null);
 }
 
+function drawMaps() {
+  drawMap();
+  drawPairs();
+}
+
 function refilter() {
   state.failing = inputs.failing.checked;
   state.handler = inputs.handler.value;
   state.words = inputs.text.value.trim();
   fillList();
-  drawMap();
+  drawMaps();
 }
 
 function stepClass(by) {
@@ -165,9 +170,10 @@ function start() {
   }, { passive: false });
   document.addEventListener("keydown", onKey);
   window.addEventListener("hashchange", chooseLinked);
-  window.addEventListener("resize", drawMap);
-  matchMedia("(prefers-color-scheme: dark)").addEventListener("change", drawMap);
+  window.addEventListener("resize", drawMaps);
+  matchMedia("(prefers-color-scheme: dark)").addEventListener("change", drawMaps);
   fillList();
+  drawPairs();
   chooseLinked();
 }
 
