@@ -69,26 +69,26 @@ pub before_with_groups : {task : ℕ} {list : WaitList} {k : Machine} {s new : S
     → StandsBefore task list (record k { sched = v; clock = t; objects = q; groups = g }) new
 before_with_groups {task} {list} {k} {s} {new} {v} {t} {q} {g} b on awake there locked bits progress
     rank since kept runs held = record {
-  sched = on;
-  clock = subst (λ (p : Progress). clock.StandsBefore task p.call.deadline t new) (sym (progress task)) awake;
-  objects =
-      subst (λ (n : ℕ). objects.StandsFor q (Some (record { task = task; list = list; priority = n })) new) (sym rank) there;
-  groups = bits;
-  awake = subst (λ (n : ℕ). AtLocked (Some (record { task = task; list = list; priority = n })) new) (sym rank) locked;
-  progress = λ i. b.progress i ∙ sym (progress i);
-  full = b.full;
-  notifications = subst (AreNotifications k.notifications) (sym (ap (λ (x : Kept). x.5) kept)) b.notifications;
-  variables = b.variables ∙ sym (ap (λ (x : Kept). x.4) kept);
-  sources = sources_on k s new (ap (λ (x : Kept). x.2) kept) since b.sources;
-  sections = b.sections ∙ sym (ap (λ (x : Kept). x.3) kept);
-  steps = b.steps ∙ sym (ap (λ (x : Kept). x.0) kept);
-  stopped = b.stopped ∙ sym (ap (λ (x : Kept). x.1) kept);
-  current = runs ∙ b.current;
-  held = held ∙ b.held;
-  phase = ap (λ (p : Progress). p.call.phase) (progress task) ∙ b.phase;
-  wait_list = b.wait_list;
-  placed = b.placed;
-}
+      sched = on;
+      clock = subst (λ (p : Progress). clock.StandsBefore task p.call.deadline t new) (sym (progress task)) awake;
+      objects =
+          subst (λ (n : ℕ). objects.StandsFor q (Some (record { task = task; list = list; priority = n })) new) (sym rank) there;
+      groups = bits;
+      awake = subst (λ (n : ℕ). AtLocked (Some (record { task = task; list = list; priority = n })) new) (sym rank) locked;
+      progress = λ i. b.progress i ∙ sym (progress i);
+      full = b.full;
+      notifications = subst (AreNotifications k.notifications) (sym (ap (λ (x : Kept). x.5) kept)) b.notifications;
+      variables = b.variables ∙ sym (ap (λ (x : Kept). x.4) kept);
+      sources = sources_on k s new (ap (λ (x : Kept). x.2) kept) since b.sources;
+      sections = b.sections ∙ sym (ap (λ (x : Kept). x.3) kept);
+      steps = b.steps ∙ sym (ap (λ (x : Kept). x.0) kept);
+      stopped = b.stopped ∙ sym (ap (λ (x : Kept). x.1) kept);
+      current = runs ∙ b.current;
+      held = held ∙ b.held;
+      phase = ap (λ (p : Progress). p.call.phase) (progress task) ∙ b.phase;
+      wait_list = b.wait_list;
+      placed = b.placed;
+    }
 
 -- the same, if the same tasks wait for bits or for a notification
 before_with : {task : ℕ} {list : WaitList} {k : Machine} {s new : State} {v : Schedule} {t : Timeline} {q : Objects}

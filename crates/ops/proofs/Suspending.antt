@@ -114,8 +114,10 @@ module _ (k : Machine) (log : List Event) (s : State) (h : At k log s) (i : ℕ)
       let locked : AtLocked None (with_status i Suspended s) =
       record { awake = each-set no_task A s.tasks i u tt h.stands.rest.awake.awake; to_place = tt } in
       rw can (record {
-        stands = record { sched = on;
-          rest = rest_with h.stands.rest awake (omega arith) (progress-kept s.tasks i u refl) refl left locked gone };
+        stands = record {
+          sched = on;
+          rest = rest_with h.stands.rest awake (omega arith) (progress-kept s.tasks i u refl) refl left locked gone;
+        };
         log = h.log;
       })
 

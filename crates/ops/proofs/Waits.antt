@@ -177,8 +177,10 @@ module _ (k : Machine) (s : State) (h : StandsFor k s) (list : WaitList) (i : â„
       let locked = subst (AtLocked None) one (at_locked-wake_best None list s h.rest.awake) in
       let bits = subst (SameEventWaits s) one (bits_elsewhere.same_wake_best list s) in
       subst (At (record k { sched = v; clock = t; objects = q }) log) (sym one) (record {
-        stands = record { sched = on l;
-          rest = rest_with_objects h.rest (awake l) (omega arith) (progress-ready s i) refl there locked bits };
+        stands = record {
+          sched = on l;
+          rest = rest_with_objects h.rest (awake l) (omega arith) (progress-ready s i) refl there locked bits;
+        };
         log = same;
       })
 
