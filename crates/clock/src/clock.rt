@@ -129,6 +129,8 @@ impl Clock {
     }
 
     /// Becomes a copy of the other, in place. It takes no memory.
+    // Saving, restoring and copying share its body.
+    #[inline(never)]
     pub fn set_from(&mut self, other: &Self)
         ensures { self.new ≡ other.now }
     {

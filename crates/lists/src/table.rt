@@ -9,6 +9,15 @@ use crate::link::{Link, are_none};
 use crate::words::{are_same, are_same_values};
 use std::marker::Model;
 
+/// The links of all lists, and the list and the value of each node. A table is copied as one run of bytes.
+#[derive(Clone, Copy)]
+struct Rings<const N: usize, const M: usize> {
+    next: [u16; M],
+    prev: [u16; M],
+    place: [Link; N],
+    values: [u32; N],
+}
+
 /// `L` lists over `N` nodes; both are 4096 at most. A node is in one list at most, and there once. In every call the list is
 /// one below `L`, and the node one below `N`.
 ///
@@ -20,19 +29,16 @@ use std::marker::Model;
 /// leads to, and `M`, which is `N + L`, counts the links of a direction.
 #[derive(Drop)]
 pub struct Table<const L: usize, const N: usize, const M: usize> {
-    next: [u16; M],
-    prev: [u16; M],
-    place: [Link; N],
-    values: [u32; N],
+    rings: Rings<N, M>,
 }
 
 // Clauses see for each list its entries in order, each a node and its value.
 impl<const L: usize, const N: usize, const M: usize> Model for Table<L, N, M> {
     ghost Value = { List (List (ℕ × ℕ)) };
 
-    ghost view = { λ t. lists_of N (links_of N t.next) t.values (ends_of N t.next) };
+    ghost view = { λ t. lists_of N (links_of N t.rings.next) t.rings.values (ends_of N t.rings.next) };
 
-    ghost invariant = { λ t. IsRingTable L N M t.next t.prev t.place t.values };
+    ghost invariant = { λ t. IsRingTable L N M t.rings.next t.rings.prev t.rings.place t.rings.values };
 }
 
 /// Links that each lead to themselves, as a list's end does if the list is empty.
@@ -99,10 +105,12 @@ impl<const L: usize, const N: usize, const M: usize> Table<L, N, M> {
     {
         let links = closed();
         Table {
-            next: links,
-            prev: links,
-            place: [Link::none(); N],
-            values: [0; N],
+            rings: Rings {
+                next: links,
+                prev: links,
+                place: [Link::none(); N],
+                values: [0; N],
+            },
         }
     }
 
@@ -120,22 +128,14 @@ impl<const L: usize, const N: usize, const M: usize> Table<L, N, M> {
     pub fn copy(&self) -> Self
         ensures { result ≡ self.now }
     {
-        Table {
-            next: self.next,
-            prev: self.prev,
-            place: self.place,
-            values: self.values,
-        }
+        Table { rings: self.rings }
     }
 
     /// Becomes a copy of the other, in place. It takes no memory.
     pub fn set_from(&mut self, other: &Self)
         ensures { self.new ≡ other.now }
     {
-        self.next = other.next;
-        self.prev = other.prev;
-        self.place = other.place;
-        self.values = other.values;
+        self.rings = other.rings;
     }
 
     /// Whether the lists of the other table have the same entries in the same order. A node that is in no list keeps nothing of an
@@ -143,7 +143,8 @@ impl<const L: usize, const N: usize, const M: usize> Table<L, N, M> {
     pub fn is_same(&self, other: &Self) -> bool
         ensures { result ≡ true → self.now ≡ other.now }
     {
-        are_same(&self.next, &other.next) && are_same_values(&self.values, &other.values)
+        are_same(&self.rings.next, &other.rings.next)
+            && are_same_values(&self.rings.values, &other.rings.values)
     }
 
     /// The first node of a list below `L`; `None` if the list is empty.
@@ -153,7 +154,7 @@ impl<const L: usize, const N: usize, const M: usize> Table<L, N, M> {
             ≡ first_of (entries_of self.now list.number) }
         ensures sound { IsSound L N self.now }
     {
-        node_at::<N>(self.next[self.end(list)])
+        node_at::<N>(self.rings.next[self.end(list)])
     }
 
     /// Whether a node below `N` is the first of a list below `L`.
@@ -164,7 +165,7 @@ impl<const L: usize, const N: usize, const M: usize> Table<L, N, M> {
             ↔ (first_of (entries_of self.now list.number) ≡ Some node.number) }
         ensures sound { IsSound L N self.now }
     {
-        self.next[self.end(list)] == node.number
+        self.rings.next[self.end(list)] == node.number
     }
 
     /// The first node of a list below `L` that isn't empty.
@@ -176,7 +177,7 @@ impl<const L: usize, const N: usize, const M: usize> Table<L, N, M> {
         ensures sound { IsSound L N self.now }
     {
         NodeId {
-            number: self.next[self.end(list)],
+            number: self.rings.next[self.end(list)],
         }
     }
 
@@ -194,7 +195,7 @@ impl<const L: usize, const N: usize, const M: usize> Table<L, N, M> {
     {
         let mut node = 0;
         while node < N {
-            if !are_free(&self.place, node) {
+            if !are_free(&self.rings.place, node) {
                 return false;
             }
             node += 4;
@@ -208,7 +209,7 @@ impl<const L: usize, const N: usize, const M: usize> Table<L, N, M> {
         ensures place { option_map (λ list. list.number) result ≡ place_of self.now node.number }
         ensures sound { IsSound L N self.now }
     {
-        list_of(self.place[node.number as usize])
+        list_of(self.rings.place[node.number as usize])
     }
 
     /// The value with which a node below `N` was put into its list, 0 to 4294967295. Of a node in no list, any number.
@@ -219,7 +220,7 @@ impl<const L: usize, const N: usize, const M: usize> Table<L, N, M> {
             → result ≡ value_of node.number (entries_of self.now list) }
         ensures sound { IsSound L N self.now }
     {
-        self.values[node.number as usize]
+        self.rings.values[node.number as usize]
     }
 
     /// The node after this one, which is below `N`, in its list; `None` after the last, and for a node in no list.
@@ -233,7 +234,7 @@ impl<const L: usize, const N: usize, const M: usize> Table<L, N, M> {
         ensures known { ForSome (option_map (λ node. node.number) result) (λ node. node < N) }
         ensures sound { IsSound L N self.now }
     {
-        if self.place[node.number as usize].is_some() {
+        if self.rings.place[node.number as usize].is_some() {
             self.next_in_list(node)
         } else {
             None
@@ -250,7 +251,7 @@ impl<const L: usize, const N: usize, const M: usize> Table<L, N, M> {
         ensures known { ForSome (option_map (λ node. node.number) result) (λ node. node < N) }
         ensures sound { IsSound L N self.now }
     {
-        node_at::<N>(self.next[node.number as usize])
+        node_at::<N>(self.rings.next[node.number as usize])
     }
 
     /// Takes a node below `N` out of its list. One that is in no list stays so. The other entries keep their order.
@@ -259,12 +260,12 @@ impl<const L: usize, const N: usize, const M: usize> Table<L, N, M> {
         ensures removed { self.new ≡ map (without node.number) self.old }
         ensures sound { IsSound L N self.new }
     {
-        if self.place[node.number as usize].is_some() {
-            let before = self.prev[node.number as usize];
-            let after = self.next[node.number as usize];
-            self.next[before as usize] = after;
-            self.prev[after as usize] = before;
-            self.place[node.number as usize] = Link::none();
+        if self.rings.place[node.number as usize].is_some() {
+            let before = self.rings.prev[node.number as usize];
+            let after = self.rings.next[node.number as usize];
+            self.rings.next[before as usize] = after;
+            self.rings.prev[after as usize] = before;
+            self.rings.place[node.number as usize] = Link::none();
             self.forget(node);
         }
     }
@@ -277,8 +278,8 @@ impl<const L: usize, const N: usize, const M: usize> Table<L, N, M> {
         ensures same { self.new ≡ self.old }
         ensures sound { IsSound L N self.new }
     {
-        self.next[node.number as usize] = node.number;
-        self.values[node.number as usize] = 0;
+        self.rings.next[node.number as usize] = node.number;
+        self.rings.values[node.number as usize] = 0;
     }
 
     /// Takes the first node out of a list below `L`, and returns it; `None` if the list is empty. The other entries keep
@@ -294,12 +295,12 @@ impl<const L: usize, const N: usize, const M: usize> Table<L, N, M> {
         ensures sound { IsSound L N self.new }
     {
         let end = self.end(list);
-        let first = self.next[end];
+        let first = self.rings.next[end];
         if (first as usize) < N {
-            let second = self.next[first as usize];
-            self.next[end] = second;
-            self.prev[second as usize] = end as u16;
-            self.place[first as usize] = Link::none();
+            let second = self.rings.next[first as usize];
+            self.rings.next[end] = second;
+            self.rings.prev[second as usize] = end as u16;
+            self.rings.place[first as usize] = Link::none();
             let node = NodeId { number: first };
             self.forget(node);
             return Some(node);
@@ -319,17 +320,17 @@ impl<const L: usize, const N: usize, const M: usize> Table<L, N, M> {
         ensures sound { IsSound L N self.new }
     {
         let end = self.end(list);
-        let first = self.next[end];
+        let first = self.rings.next[end];
         if (first as usize) < N {
-            let second = self.next[first as usize];
+            let second = self.rings.next[first as usize];
             if (second as usize) < N {
-                self.next[end] = second;
-                self.prev[second as usize] = end as u16;
-                let last = self.prev[end];
-                self.next[first as usize] = end as u16;
-                self.prev[first as usize] = last;
-                self.next[last as usize] = first;
-                self.prev[end] = first;
+                self.rings.next[end] = second;
+                self.rings.prev[second as usize] = end as u16;
+                let last = self.rings.prev[end];
+                self.rings.next[first as usize] = end as u16;
+                self.rings.prev[first as usize] = last;
+                self.rings.next[last as usize] = first;
+                self.rings.prev[end] = first;
                 return Some(NodeId { number: second });
             }
         }
@@ -395,13 +396,13 @@ impl<const L: usize, const N: usize, const M: usize> Table<L, N, M> {
             ≡ slice_set self.old list.number (before ++ (node.number, value) ∷ rest) }
         ensures sound { IsSound L N self.new }
     {
-        let before = self.prev[after];
-        self.next[node.number as usize] = after as u16;
-        self.prev[node.number as usize] = before;
-        self.place[node.number as usize] = Link::to(list.number);
-        self.values[node.number as usize] = value;
-        self.next[before as usize] = node.number;
-        self.prev[after] = node.number;
+        let before = self.rings.prev[after];
+        self.rings.next[node.number as usize] = after as u16;
+        self.rings.prev[node.number as usize] = before;
+        self.rings.place[node.number as usize] = Link::to(list.number);
+        self.rings.values[node.number as usize] = value;
+        self.rings.next[before as usize] = node.number;
+        self.rings.prev[after] = node.number;
     }
 
     /// The first node of a list whose value is greater, or the end of the list.
@@ -411,12 +412,12 @@ impl<const L: usize, const N: usize, const M: usize> Table<L, N, M> {
         ensures end { N ≤ result → result ≡ N + list.number }
     {
         let end = self.end(list);
-        let mut at = self.next[end] as usize;
+        let mut at = self.rings.next[end] as usize;
         while at < N {
-            if value < self.values[at] {
+            if value < self.rings.values[at] {
                 return at;
             }
-            at = self.next[at] as usize;
+            at = self.rings.next[at] as usize;
         }
         end
     }
@@ -429,13 +430,13 @@ impl<const L: usize, const N: usize, const M: usize> Table<L, N, M> {
         ensures end { N ≤ result → result ≡ N + list.number }
     {
         let mut after = self.end(list);
-        let mut at = self.prev[after] as usize;
+        let mut at = self.rings.prev[after] as usize;
         while at < N {
-            if self.values[at] <= value {
+            if self.rings.values[at] <= value {
                 return after;
             }
             after = at;
-            at = self.prev[at] as usize;
+            at = self.rings.prev[at] as usize;
         }
         after
     }

@@ -45,7 +45,7 @@ impl Machine {
         let time = elapsed ^ self.clock.quiet_ticks() as u64;
         let counts = self.objects.hint();
         let sources = self.sources.hint(self.clock.age());
-        let kept = self.notifications.hint() ^ sources.rotate_left(16);
+        let kept = self.notifications.hint(tasks) ^ sources.rotate_left(16);
         let shared = counts ^ self.variables.hint() ^ kept;
         let mut hash = mixed(mixed(time, shared ^ self.steps as u64), numbered(runs));
         for task in 0..tasks.min(32) {

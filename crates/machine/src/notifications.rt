@@ -94,13 +94,14 @@ impl Notifications {
         }
     }
 
-    /// A number that is the same for equal ones, and usually differs for others. Nothing rests on it.
-    pub(crate) fn hint(&self) -> u64 {
+    /// A number that is the same for equal ones, and usually differs for others if they differ in so many first tasks. Nothing rests
+    /// on it.
+    pub(crate) fn hint(&self, tasks: usize) -> u64 {
         if !self.used {
             return 0;
         }
         let mut hash = 0;
-        for notification in &self.of_tasks {
+        for notification in self.of_tasks.iter().take(tasks) {
             hash = mixed(
                 hash,
                 notification.value as u64 * 2 + notification.pending as u64,

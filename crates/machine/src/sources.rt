@@ -86,6 +86,8 @@ impl Sources {
     }
 
     /// Becomes a copy of the other, in place. It takes no memory.
+    // Saving, restoring and copying share its body.
+    #[inline(never)]
     pub(crate) fn set_from(&mut self, other: &Self)
         ensures { self.new ≡ other.now }
     {

@@ -9,9 +9,10 @@ pub loop-at-init : goal.loop-at-init
 loop-at-init g c =
     let h = c.self.invariant.rings in
     let entries =
-    entries_of (lists_of g.row.N (links_of g.row.N c.self.inside.next) c.self.inside.values (ends_of g.row.N c.self.inside.next))
+    entries_of (lists_of g.row.N (links_of g.row.N c.self.inside.rings.next) c.self.inside.rings.values
+      (ends_of g.row.N c.self.inside.rings.next))
     c.args.list.number in
-    let start : Search c.args.value entries (node_at g.row.N (get_or c.self.inside.next (g.row.N + c.args.list.number) 0)) =
+    let start : Search c.args.value entries (node_at g.row.N (get_or c.self.inside.rings.next (g.row.N + c.args.list.number) 0)) =
     record { before = []; rest = entries; whole = refl; here = ring_first h c.args.list.number c.requires; same = refl } in
     rw c.end-end.ensures start
 
@@ -26,25 +27,26 @@ returns-then-value-self-clause-found g c =
 
 pub loop-at-smaller : goal.loop-at-smaller
 loop-at-smaller g c =
-    let links = links_of g.row.N c.self.inside.next in
+    let links = links_of g.row.N c.self.inside.rings.next in
     let is = node-below g.row.N c.loop-at.at c.loop-at-test.true in
     let at =
     shows c.self.invariant.rings.spells c.args.list.number c.requires c.args.value
     c.loop-at.at (node_at g.row.N c.loop-at.at) c.loop-at.invariant is in
     subst (λ (o : Option ℕ).
-    length (walk links c.self.inside.values g.row.N o)
-    < length (walk links c.self.inside.values g.row.N (node_at g.row.N c.loop-at.at)))
-    (read_node g.row.N c.self.inside.next c.loop-at.at c.loop-at-test.true (next_room c.self.invariant.rings)) at.shorter
+    length (walk links c.self.inside.rings.values g.row.N o)
+    < length (walk links c.self.inside.rings.values g.row.N (node_at g.row.N c.loop-at.at)))
+    (read_node g.row.N c.self.inside.rings.next c.loop-at.at c.loop-at-test.true (next_room c.self.invariant.rings)) at.shorter
 
 pub loop-at-preserved : goal.loop-at-preserved
 loop-at-preserved g c =
     let entries =
-    entries_of (lists_of g.row.N (links_of g.row.N c.self.inside.next) c.self.inside.values (ends_of g.row.N c.self.inside.next))
+    entries_of (lists_of g.row.N (links_of g.row.N c.self.inside.rings.next) c.self.inside.rings.values
+      (ends_of g.row.N c.self.inside.rings.next))
     c.args.list.number in
     let is = node-below g.row.N c.loop-at.at c.loop-at-test.true in
     let at =
     shows c.self.invariant.rings.spells c.args.list.number c.requires c.args.value
     c.loop-at.at (node_at g.row.N c.loop-at.at) c.loop-at.invariant is in
     subst (Search c.args.value entries)
-    (read_node g.row.N c.self.inside.next c.loop-at.at c.loop-at-test.true (next_room c.self.invariant.rings))
+    (read_node g.row.N c.self.inside.rings.next c.loop-at.at c.loop-at-test.true (next_room c.self.invariant.rings))
     (at.goes_on (omega arith))

@@ -11,15 +11,16 @@ loop-at-init g c =
     let l = c.args.list.number in
     let entries =
     entries_of
-    (lists_of g.row.N (links_of g.row.N c.self.inside.next) c.self.inside.values (ends_of g.row.N c.self.inside.next)) l in
-    let room : g.row.N + l < length c.self.inside.prev =
+    (lists_of g.row.N (links_of g.row.N c.self.inside.rings.next) c.self.inside.rings.values
+      (ends_of g.row.N c.self.inside.rings.next)) l in
+    let room : g.row.N + l < length c.self.inside.rings.prev =
     subst (λ (k : ℕ). g.row.N + l < k) (sym h.prev_length) (within h l (g.row.N + l) c.requires.list (λ past. refl)) in
     let start : SearchBack c.args.value entries
-    (node_at g.row.N (get_or c.self.inside.prev (g.row.N + l) 0)) (node_at g.row.N (g.row.N + l)) =
-    subst (SearchBack c.args.value entries (node_at g.row.N (get_or c.self.inside.prev (g.row.N + l) 0)))
+    (node_at g.row.N (get_or c.self.inside.rings.prev (g.row.N + l) 0)) (node_at g.row.N (g.row.N + l)) =
+    subst (SearchBack c.args.value entries (node_at g.row.N (get_or c.self.inside.rings.prev (g.row.N + l) 0)))
     (sym (end-none g.row.N (g.row.N + l) (omega arith)))
     (subst (λ (o : Option ℕ). SearchBack c.args.value entries o None)
-    (read_end g.row.N l c.self.inside.prev room) (starts h.spells l c.requires.list c.args.value)) in
+    (read_end g.row.N l c.self.inside.rings.prev room) (starts h.spells l c.requires.list c.args.value)) in
     rw c.end-after.ensures (start, λ past. refl)
 
 pub returns-then-self-at-clause-found : goal.returns-then-self-at-clause-found
@@ -36,23 +37,24 @@ returns-then-self-at-clause-found g c =
 pub loop-at-smaller : goal.loop-at-smaller
 loop-at-smaller g c =
     let N = g.row.N in
-    let links = links_of N c.self.inside.next in
+    let links = links_of N c.self.inside.rings.next in
     let is = node-below N c.loop-at.at c.loop-at-test.true in
     let at =
     shows_back c.self.invariant.rings.spells c.args.list.number c.requires.list c.args.value
     c.loop-at.at (node_at N c.loop-at.at) (node_at N c.loop-at.after) c.loop-at.invariant.0 is in
     let longer =
     subst (λ (o : Option ℕ).
-    length (walk links c.self.inside.values N (node_at N c.loop-at.after)) < length (walk links c.self.inside.values N o))
+    length (walk links c.self.inside.rings.values N (node_at N c.loop-at.after)) < length
+      (walk links c.self.inside.rings.values N o))
     (sym is) at.longer in
-    let few = subst (λ (o : Option ℕ). length (walk links c.self.inside.values N o) ≤ N) (sym is) at.few in
+    let few = subst (λ (o : Option ℕ). length (walk links c.self.inside.rings.values N o) ≤ N) (sym is) at.few in
     omega (arith, longer, few)
 
 pub loop-at-preserved : goal.loop-at-preserved
 loop-at-preserved g c =
     let N = g.row.N in
     let entries =
-    entries_of (lists_of N (links_of N c.self.inside.next) c.self.inside.values (ends_of N c.self.inside.next))
+    entries_of (lists_of N (links_of N c.self.inside.rings.next) c.self.inside.rings.values (ends_of N c.self.inside.rings.next))
     c.args.list.number in
     let is = node-below N c.loop-at.at c.loop-at-test.true in
     let at =
@@ -60,9 +62,9 @@ loop-at-preserved g c =
     c.loop-at.at (node_at N c.loop-at.at) (node_at N c.loop-at.after) c.loop-at.invariant.0 is in
     let further =
     subst (λ (o : Option ℕ). SearchBack c.args.value entries o (Some c.loop-at.at))
-    (read_node N c.self.inside.prev c.loop-at.at c.loop-at-test.true (prev_room c.self.invariant.rings))
+    (read_node N c.self.inside.rings.prev c.loop-at.at c.loop-at-test.true (prev_room c.self.invariant.rings))
     (at.goes_on (omega arith)) in (
-      subst (SearchBack c.args.value entries (node_at N (get_or c.self.inside.prev c.loop-at.at 0))) (sym is) further,
+      subst (SearchBack c.args.value entries (node_at N (get_or c.self.inside.rings.prev c.loop-at.at 0))) (sym is) further,
       λ past. absurd (omega arith),
     )
 

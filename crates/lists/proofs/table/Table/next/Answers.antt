@@ -21,7 +21,7 @@ pub returns-then-is_some-clause-outside : goal.returns-then-is_some-clause-outsi
 returns-then-is_some-clause-outside g c = λ outside.
     let h = ring_seen c.self.invariant.rings c.self.view_is in
     let place =
-    some_list (get_or c.self.inside.place c.args.node.number None) c.is_some.result
+    some_list (get_or c.self.inside.rings.place c.args.node.number None) c.is_some.result
     (sym (ap is_some (read_link _ _ _ h.spells.place_length c.requires)) ∙ sym c.is_some.ensures) c.if-is_some.true in
     absurd (none-some place.0 (sym outside ∙ sym (place_is h.spells c.args.node.number) ∙ place.1))
 
@@ -38,7 +38,7 @@ returns-else-is_some-clause-sound g c =
 pub returns-else-is_some-clause-next : goal.returns-else-is_some-clause-next
 returns-else-is_some-clause-next g c = λ l has.
     let h = ring_seen c.self.invariant.rings c.self.view_is in
-    let at_list = get_or c.self.inside.place c.args.node.number None in
+    let at_list = get_or c.self.inside.rings.place c.args.node.number None in
     absurd (no_list at_list c.is_some.result l
     (sym (ap is_some (read_link _ _ _ h.spells.place_length c.requires)) ∙ sym c.is_some.ensures)
     c.if-is_some.false (placed_here h.spells c.args.node.number l at_list refl has))

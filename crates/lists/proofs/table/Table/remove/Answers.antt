@@ -17,7 +17,7 @@ pub bounds-self-inside-before : goal.bounds-self-inside-before
 bounds-self-inside-before g c =
     let h = ring_seen c.self.invariant.rings c.self.view_is in
     let at =
-    some_list (get_or c.self.inside.place c.args.node.number None) c.is_some.result
+    some_list (get_or c.self.inside.rings.place c.args.node.number None) c.is_some.result
     (sym (ap is_some (read_link _ _ _ h.spells.place_length c.requires)) ∙ sym c.is_some.ensures) c.if-is_some.true in
     let a = around h c.args.node.number at.0 c.requires at.1 in
     within h at.0 _ a.list a.before_end
@@ -26,7 +26,7 @@ pub bounds-self-inside-after : goal.bounds-self-inside-after
 bounds-self-inside-after g c =
     let h = ring_seen c.self.invariant.rings c.self.view_is in
     let at =
-    some_list (get_or c.self.inside.place c.args.node.number None) c.is_some.result
+    some_list (get_or c.self.inside.rings.place c.args.node.number None) c.is_some.result
     (sym (ap is_some (read_link _ _ _ h.spells.place_length c.requires)) ∙ sym c.is_some.ensures) c.if-is_some.true in
     let a = around h c.args.node.number at.0 c.requires at.1 in
     within h at.0 _ a.list a.after_end
@@ -35,7 +35,7 @@ pub forget-requires : goal.forget-requires
 forget-requires g c =
     let h = ring_seen c.self.invariant.rings c.self.view_is in
     let at =
-    some_list (get_or c.self.inside.place c.args.node.number None) c.is_some.result
+    some_list (get_or c.self.inside.rings.place c.args.node.number None) c.is_some.result
     (sym (ap is_some (read_link _ _ _ h.spells.place_length c.requires)) ∙ sym c.is_some.ensures) c.if-is_some.true in
     let free =
     is_free (ring_taken h c.args.node.number at.0 c.requires at.1) c.args.node.number
@@ -46,7 +46,7 @@ pub invariant_of-self : goal.invariant_of-self
 invariant_of-self g c =
     let h = ring_seen c.self.invariant.rings c.self.view_is in
     let at =
-    some_list (get_or c.self.inside.place c.args.node.number None) c.is_some.result
+    some_list (get_or c.self.inside.rings.place c.args.node.number None) c.is_some.result
     (sym (ap is_some (read_link _ _ _ h.spells.place_length c.requires)) ∙ sym c.is_some.ensures) c.if-is_some.true in
     rw c.none.ensures.none
     (ring_table (ring_taken h c.args.node.number at.0 c.requires at.1) c.self.invariant.lists_fit c.self.invariant.nodes_fit)
@@ -55,7 +55,7 @@ pub returns-then-is_some-clause-removed : goal.returns-then-is_some-clause-remov
 returns-then-is_some-clause-removed g c =
     let h = ring_seen c.self.invariant.rings c.self.view_is in
     let at =
-    some_list (get_or c.self.inside.place c.args.node.number None) c.is_some.result
+    some_list (get_or c.self.inside.rings.place c.args.node.number None) c.is_some.result
     (sym (ap is_some (read_link _ _ _ h.spells.place_length c.requires)) ∙ sym c.is_some.ensures) c.if-is_some.true in
     c.forget.ensures.same ∙ ring_lists (ring_taken h c.args.node.number at.0 c.requires at.1)
 
@@ -63,14 +63,15 @@ pub returns-then-is_some-clause-sound : goal.returns-then-is_some-clause-sound
 returns-then-is_some-clause-sound g c =
     let h = ring_seen c.self.invariant.rings c.self.view_is in
     let at =
-    some_list (get_or c.self.inside.place c.args.node.number None) c.is_some.result
+    some_list (get_or c.self.inside.rings.place c.args.node.number None) c.is_some.result
     (sym (ap is_some (read_link _ _ _ h.spells.place_length c.requires)) ∙ sym c.is_some.ensures) c.if-is_some.true in
     c.forget.ensures.sound
 
 pub returns-else-is_some-clause-removed : goal.returns-else-is_some-clause-removed
 returns-else-is_some-clause-removed g c =
     let h = ring_seen c.self.invariant.rings c.self.view_is in
-    sym (without_unplaced h.spells c.args.node.number (no_list (get_or c.self.inside.place c.args.node.number None) c.is_some.result
+    sym (without_unplaced h.spells c.args.node.number (no_list
+      (get_or c.self.inside.rings.place c.args.node.number None) c.is_some.result
     (sym (ap is_some (read_link _ _ _ h.spells.place_length c.requires)) ∙ sym c.is_some.ensures) c.if-is_some.false))
 
 pub returns-else-is_some-clause-sound : goal.returns-else-is_some-clause-sound
