@@ -12,7 +12,7 @@ use Rattle.model.specs.declared.op.IsrOp.{IsrOp}
 use Rattle.ops.proofs.Calling.{leaves_both}
 use Rattle.kernel.proofs.Handling.{behind_is, behind_short, handler_short, room_after, op_fits, amid_begins, amid_stands}
 use Rattle.kernel.proofs.Handling.{amid_jumped, amid_did, amid_handled, amid_handled_any, amid_failed, amid_failed_any}
-use Rattle.kernel.proofs.handlers.handle.Goals.{then-over-gt0, else-over-gt0+else-is_failed}
+use Rattle.kernel.proofs.handlers.handle.Goals.{then-over-gt0, else-over-gt0+in-Source, else-over-gt0+in_default+else-is_failed}
 use Rattle.kernel.proofs.handlers.handle.Goals as goal
 
 -- the variables that are looked at are those of each state that the kernel represents
@@ -72,7 +72,29 @@ loop-op_index-preserved g c = elim c.if-over-gt0.branch [
       (g.L.Log.logged c.args.log.now) c.loop-op_index.op_index c.loop-op_index.over c.loop-op_index.last
       c.loop-op_index.machine (g.L.Log.logged c.loop-op_index.log) c.loop-op_index.invariant
       c.index-ops-op_index.result c.loop-op_index-test.true c.index-ops-op_index.is w.if-over-gt0.true)
-  | else-over-gt0+else-is_failed w ↦
+  | else-over-gt0+in-Source w ↦
+      let none : c.loop-op_index.over ≡ 0 = (let l = w.if-over-gt0.false in omega arith) in
+      rw (w.machine-is, w.log-is, w.last-is, w.over-is)
+      (amid_did c.args.app.now c.args.handler c.handler_ops-ops.result.now c.args.machine.now
+      (g.L.Log.logged c.args.log.now) c.loop-op_index.op_index c.loop-op_index.over c.loop-op_index.last
+      c.loop-op_index.machine (g.L.Log.logged c.loop-op_index.log) c.loop-op_index.invariant
+      c.index-ops-op_index.result c.loop-op_index-test.true c.index-ops-op_index.is none
+      (λ t stands. rw w.in-Source.is refl) w.do_to_source.new.self (g.L.Log.logged c.loop-op_index.log) c.loop-op_index.last
+      c.loop-op_index.over
+      (record {
+        at = λ s h. rw w.in-Source.is (w.do_to_source.ensures.does _ s h);
+        few = omega arith;
+        before = refl;
+      })
+      (record {
+        at = λ s h. rw w.in-Source.is (w.do_to_source.ensures.any _ s h);
+        few = omega arith;
+        before = refl;
+      })
+      (rw w.do_to_source.ensures.rest (record { depth = refl; objects = λ o a h. h }))
+      (λ s h. rw w.in-Source.is refl)
+      (λ s h. none ∙ rw w.in-Source.is refl))
+  | else-over-gt0+in_default+else-is_failed w ↦
       let none : c.loop-op_index.over ≡ 0 = (let l = w.if-over-gt0.false in omega arith) in
       rw (w.machine-is, w.log-is, w.last-is, w.over-is)
       (amid_did c.args.app.now c.args.handler c.handler_ops-ops.result.now c.args.machine.now
