@@ -409,10 +409,6 @@ next_point points index point l is =
 
 -- ---- a point that was run before
 
--- there are this many rows
-pub among_within : (rows : List KeptRow) (point : List Injection) (number : ℕ) → IsAmong rows point number → number < length rows
-among_within rows point number among = slice_get_within rows number among.row among.is
-
 module _ (app : Application) (limits : Limits) (view : View) (base : Run) where
   -- its row is kept
   row_again : (point : List Injection) (store : Store) (kept : List KeptRow) (number : ℕ)

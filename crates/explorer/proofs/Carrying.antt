@@ -179,24 +179,3 @@ module _ (app : Application) (limits : Limits) (n : ℕ) where
         get_same [] i x y l = absurd (omega (arith, l))
         get_same (z ∷ xs) zero x y l = refl
         get_same (z ∷ xs) (suc i) x y l = get_same xs i x y (omega (arith, l))
-
--- ---- how many
-
-pub count-put : (old new : List Node) (k : Machine) (count : ℕ) (least : List Injection)
-    → IsPut old new k count least → count_of new ≡ count_of old + count
-count-put old new k count least put =
-    let all : count_of new ≡ count_of (old ++ put.node ∷ []) = ap (λ (nodes : List Node). count_of nodes) put.new_is in
-    let sum : count_of (old ++ put.node ∷ []) ≡ count_of old + count_of (put.node ∷ []) =
-    sum_by-append (λ (node : Node). node.count) old (put.node ∷ []) in
-    let one : count_of (put.node ∷ []) ≡ put.node.count = omega arith in
-    let many = put.as_many in
-    omega (arith, all, sum, one, many)
-
-pub count-joined : (old new : List Node) (number count : ℕ) (least : List Injection) → number < length old
-    → IsJoined old new number count least → count_of new ≡ count_of old + count
-count-joined old new number count least within join =
-    let one = sum_by-set (λ (node : Node). node.count) old number join.joined join.node within in
-    let here : (get_or old number join.node).count ≡ join.node.count = ap (λ (node : Node). node.count) join.is in
-    let more = join.more in
-    let all : count_of new ≡ count_of (set old number join.joined) = ap (λ (nodes : List Node). count_of nodes) join.new_is in
-    omega (arith, one, here, more, all)

@@ -22,15 +22,6 @@ pub record SetUntil (handlers set : List ℕ) (n : ℕ) : Type 0 where
   pub are : AllByRecursion (Contains handlers) set
   pub all : (handler : ℕ) → handler < n → Contains handlers handler → Contains set handler
 
-pub set_none : (handlers : List ℕ) → SetUntil handlers [] 0
-set_none handlers = record {
-  once = tt;
-  few = omega arith;
-  below = tt;
-  are = tt;
-  all = λ handler l. absurd (omega arith);
-}
-
 module _ (handlers old : List ℕ) (n : ℕ) (h : SetUntil handlers old n) where
   below_more : AllByRecursion (λ handler. handler < n + 1) old
   below_more = all_weaker (λ handler. handler < n) (λ handler. handler < n + 1) (λ handler l. omega arith) old h.below

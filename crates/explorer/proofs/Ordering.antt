@@ -10,13 +10,6 @@ use Rattle.model.proofs.Sorting.{by_test}
 
 -- ---- one injection and another
 
--- what the tests mean
-abbrev Sooner : ℕ → ℕ → ℕ → ℕ → Bool
-Sooner a b c d = ltb a c || (eqb a c && ltb b d)
-
-sooner_cases : (a b c d : ℕ) → Sooner a b c d ≡ true → (a < c → ⊥) → (a ≡ c) × (b < d)
-sooner_cases a b c d h not = grind (arith, nat_tests)
-
 sooner_trans : (i j k : Injection) → is_sooner i j ≡ true → is_sooner j k ≡ true → is_sooner i k ≡ true
 sooner_trans i j k h l = grind (arith, nat_tests)
 

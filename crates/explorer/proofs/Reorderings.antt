@@ -108,15 +108,6 @@ module _ {X Y : Type 0} where
   flat_none [] = refl
   flat_none (x ∷ xs) = flat_none xs
 
--- A table by its rows, and by its columns.
-pub by_columns : {X Y Z : Type 0} (f : X → Y → Z) (xs : List X) (ys : List Y)
-    → IsReordered (flat_map (λ x. map (λ y. f x y) ys) xs) (flat_map (λ y. map (λ x. f x y) xs) ys)
-by_columns {Z = Z} f [] ys = if_same [] (flat_map (λ y. map (λ x. f x y) []) ys) (sym (flat_none ys))
-by_columns f (x ∷ xs) ys =
-    Then (behind_all (map (λ y. f x y) ys) (flat_map (λ z. map (λ y. f z y) ys) xs) (flat_map (λ y. map (λ z. f z y) xs) ys)
-    (by_columns f xs ys))
-    (firsts (λ y. f x y) (λ y. map (λ z. f z y) xs) ys)
-
 -- The same of the places that pass.
 pub by_columns_if : {X Y Z : Type 0} (can : X → Y → Bool) (f : X → Y → Z) (xs : List X) (ys : List Y)
     → IsReordered (flat_map (λ x. map (λ y. f x y) (filter (λ y. can x y) ys)) xs)

@@ -72,14 +72,6 @@ pub going_free : {app : Application} {limits : Limits} {until : ℕ} {k : Machin
 going_free {app} {limits} {until} {k} short going plan f =
     f.free k.steps (omega arith) short (sym (going (state_after app limits plan k.steps) f.way.stands))
 
--- So it is where it isn't over on the way of any run.
-pub going_on_the_way : (app : Application) → IsWellFormed app → {limits : Limits} {until : ℕ} {k : Machine}
-    → k.steps < until → ((s : State) → Stands k s → IsState app s → false ≡ is_over app limits s) → (plan : List Injection)
-    → IsFree app limits until k plan → end_of app limits (state_after app limits plan k.steps) ≡ None
-going_on_the_way app formed {limits} {until} {k} short going plan f =
-    f.free k.steps (omega arith) short
-    (sym (going (state_after app limits plan k.steps) f.way.stands (reached_after app formed limits plan k.steps)))
-
 -- One that isn't over there doesn't end there.
 pub ends_not : {app : Application} {limits : Limits} {until : ℕ} {k : Machine} {plan : List Injection} → k.steps < until
     → IsGoing app limits until k plan → end_of app limits (state_after app limits plan k.steps) ≡ None

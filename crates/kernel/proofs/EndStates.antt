@@ -124,13 +124,6 @@ module _ (app : Application) (k : Machine) (s : State) (reached : IsState app s)
     same = end_state_goes_on s i Unlock;
   }
 
--- Where nobody runs, or who runs is in no such phase, all are in their lists.
-pub all_settled : (k : Machine) (s : State)
-    → ((task : ℕ) → k.sched.current ≡ Some task → (progress_in k.progress task).call.phase ≡ Place → ⊥) → Stands k s → StandsFor k s
-all_settled k s none (Placed h) = h
-all_settled k s none (Placing task list b) =
-    absurd (none task (b.sched.current ∙ b.current) (ap (λ (p : Progress). p.call.phase) (b.progress task) ∙ b.phase))
-
 -- ---- who is Awake
 
 among-tasks_of : (i : ℕ) (es : List Entry) → is_among i (tasks_of es) ≡ has_task i es
@@ -147,10 +140,6 @@ among_woken s list i = among-tasks_of i (awakened s list) ∙ by_key (woken_key 
   by_key : (o : Option Key) → woken_key list (task_at s i) ≡ o → has_task i (awakened s list) ≡ is_some o
   by_key None e = has_task-none (woken_key list) i s.tasks e
   by_key (Some k) e = has_task-key (woken_key list) refl i k s.tasks e
-
-key_there : (b : Bool) (k : Key) → is_some (if b then Some k else None) ≡ b
-key_there true k = refl
-key_there false k = refl
 
 or-true : (b : Bool) → (b || true) ≡ true
 or-true true = refl

@@ -429,19 +429,6 @@ pub not_passed : (app : Application) (s : State)
 not_passed app s e =
     and_right_false (is_any_awaited app) (list_all (λ (t : Task). is_ended t.status) (without_endless app.tasks s.tasks)) e
 
--- and each is meant
-pub none_endless : (ds : List Definition) (i : ℕ) → list_any (λ (d : Definition). d.endless) ds ≡ false
-    → unwrap_or (option_map (λ (d : Definition). d.endless) (slice_get ds i)) false ≡ false
-none_endless [] i e = refl
-none_endless (d ∷ ds) zero e = first_of_two d.endless (list_any (λ (d : Definition). d.endless) ds) e where
-  first_of_two : (a b : Bool) → a || b ≡ false → a ≡ false
-  first_of_two true b f = absurd (cc)
-  first_of_two false b f = refl
-none_endless (d ∷ ds) (suc i) e = none_endless ds i (second_of_two d.endless (list_any (λ (d : Definition). d.endless) ds) e) where
-  second_of_two : (a b : Bool) → a || b ≡ false → b ≡ false
-  second_of_two true b f = absurd (cc)
-  second_of_two false b f = f
-
 -- what is true below a number, and of it
 pub each_below : (p : ℕ → Bool) (n : ℕ) → ((i : ℕ) → i < n → p i ≡ true) → p n ≡ true → (i : ℕ) → i < n + 1 → p i ≡ true
 each_below p n below at i l = by_test (eqb i n)
@@ -660,10 +647,6 @@ some_of None e = absurd (cc)
 some_of (Some task) e = (task, refl)
 
 -- one of three answers
-pub any_only : (a b c : Bool) → b ≡ false → c ≡ false → a ≡ (a || b || c)
-any_only true b c t u = refl
-any_only false b c t u = rw (t, u) refl
-
 pub any_first : (a b c x : Bool) → (a || b || c) ≡ x → a ≡ true → true ≡ x
 any_first true b c x e t = e
 any_first false b c x e t = absurd (cc)
@@ -672,12 +655,6 @@ pub any_second : (a b c x : Bool) → (a || b || c) ≡ x → a ≡ false → b 
 any_second true b c x e t u = absurd (cc)
 any_second false true c x e t u = e
 any_second false false c x e t u = absurd (cc)
-
-pub any_middle : (a b c x : Bool) → (a || b || c) ≡ x → a ≡ false → c ≡ false → b ≡ x
-any_middle true b c x e t u = absurd (cc)
-any_middle false true c x e t u = e
-any_middle false false true x e t u = absurd (cc)
-any_middle false false false x e t u = e
 
 -- .. of four
 pub over_first : (a b c d : Bool) → a ≡ true → true ≡ a || b || c || d

@@ -78,27 +78,6 @@ pub never_switches : (k : Machine) (i : ℕ) (op : Op) → Agrees k → 0 < k.sc
 never_switches k i op a some fine =
     switches_not a.0 i op (holds_by_some a.0 (let all = a.1.sched.suspensions in omega arith)) (fine a.0 (Placed a.1))
 
--- nor has it a place outside of critical sections alone, where one is open
-pub not_open : (k : Machine) (i : ℕ) (op : Op) → Agrees k → is_barred op ≡ true
-    → ((s : State) → Stands k s → misuse s i op ≡ None) → k.sections ≡ 0
-not_open k i op a barred fine =
-    let same : k.sections ≡ (a.0).sections = a.1.rest.sections in
-    by_test (is_critical a.0)
-    (λ t. unlike (sym barred ∙ not_barred a.0 i op t (fine a.0 (Placed a.1))))
-    (λ t. let most = ltb-false 0 (a.0).sections t in omega arith)
-
--- and `exit_critical` is none only where one is open
-pub open_by : (k : Machine) (i : ℕ) → Agrees k → 0 < k.sched.suspensions
-    → ((s : State) → Stands k s → misuse s i ExitCritical ≡ None) → 0 < k.sections
-open_by k i a some fine =
-    let same : k.sections ≡ (a.0).sections = a.1.rest.sections in
-    by_test (is_critical a.0)
-    (λ t. let l = ltb-true 0 (a.0).sections t in omega arith)
-    (λ t. absurd (never_none (is_scheduler_suspended a.0) (rw t at (fine a.0 (Placed a.1))))) where
-      never_none : (b : Bool) → (if b && false then Some WhileSuspended else option_or (Some NotCritical) None) ≡ None → ⊥
-      never_none true e = absurd (cc)
-      never_none false e = absurd (cc)
-
 -- ---- which misuse an op is
 
 module _ (s : State) (i : ℕ) (op : Op) (fine : is_scheduler_suspended s && may_switch op ≡ false) where

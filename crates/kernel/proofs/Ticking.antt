@@ -404,30 +404,3 @@ module _ (app : Application) (limits : Limits) (count : ℕ) (k : Machine) (q : 
       let fits = w.1 in
       omega arith
 
--- this many steps are quiet, and so are fewer
-pub quiet_fewer : (app : Application) (limits : Limits) (count few : ℕ) (k : Machine)
-    → few ≤ count → IsQuiet app limits count k → IsQuiet app limits few k
-quiet_fewer app limits count few k le q =
-    let ticks = q.ticks in
-    let steps = q.steps in
-    let turn = q.turn in
-    record {
-      stopped = q.stopped;
-      none = q.none;
-      depth = q.depth;
-      pending = q.pending;
-      steady = q.steady;
-      asleep =
-          Each-imp (λ e. k.clock.now + count < e.1) (λ e. k.clock.now + few < e.1)
-          k.clock.delayed_list (λ e l. omega (arith, l)) q.asleep;
-      turn = omega arith;
-      interrupts = λ tick from upto. q.interrupts tick from (omega arith);
-      raised = λ source tick from upto. q.raised source tick from (omega arith);
-      ticks = omega arith;
-      steps = omega arith;
-      works = by_current k.sched.current q.works;
-      left = q.left;
-    } where
-      by_current : (o : Option ℕ) → WorksOn app count k o → WorksOn app few k o
-      by_current None w = w
-      by_current (Some task) w = let fits = w.1 in let less = w.4 in (w.0, omega arith, w.2, w.3, omega arith)

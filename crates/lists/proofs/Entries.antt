@@ -230,13 +230,6 @@ Each-insert_sorted P n v (x ∷ xs) p h = elim (cases_lt v x.1) [
   | inr more ↦ subst (Each P) (sym (insert_sorted-after n v x xs more)) (h.0, Each-insert_sorted P n v xs p h.1)
 ]
 
-pub length-insert_sorted : (n v : ℕ) (xs : List (ℕ × ℕ)) → length (insert_sorted (n, v) xs) ≡ length ((n, v) ∷ xs)
-length-insert_sorted n v [] = refl
-length-insert_sorted n v (x ∷ xs) = elim (cases_lt v x.1) [
-  | inl less ↦ ap length (insert_sorted-before n v x xs less)
-  | inr more ↦ ap length (insert_sorted-after n v x xs more) ∙ let e = length-insert_sorted n v xs in omega (arith, e)
-]
-
 -- sorted entries
 
 pub IsSorted-insert_sorted : (n v : ℕ) (xs : List (ℕ × ℕ)) → IsSorted xs → IsSorted (insert_sorted (n, v) xs)

@@ -601,8 +601,3 @@ spells_empty L N next prev firsts lasts next_length prev_length firsts_length la
       listed = λ n l at_list. absurd (none-some l (sym (get_or-replicate N n None) ∙ at_list));
     }
 
--- the lists that a walk finds are sound
-pub sound_view : {L N : ℕ} {next prev place : List (Option ℕ)} {values : List ℕ}
-    {firsts lasts : List (Option ℕ)} {ls : List (List (ℕ × ℕ))}
-    → Spells L N next prev place values firsts lasts ls → IsSound L N (lists_of N next values firsts)
-sound_view {L} {N} h = subst (IsSound L N) (sym (lists_of-Spells h)) (sound h)

@@ -48,10 +48,6 @@ none_of_any (true ∷ ps) e source = absurd (cc)
 none_of_any (false ∷ ps) e zero = refl
 none_of_any (false ∷ ps) e (suc source) = none_of_any ps e source
 
-pub any_of_none : (ps : List Bool) → ((source : ℕ) → get_or ps source false ≡ false) → false ≡ list_any (λ p. p) ps
-any_of_none [] h = refl
-any_of_none (p ∷ ps) h = rw (h 0) (any_of_none ps (λ source. h (suc source)))
-
 -- ---- a handler becomes pending
 
 pub are_pended : (now : ℕ) (v w : Sources) (xs : List Source) (i : ℕ) → AreSources now v xs

@@ -16,12 +16,6 @@ use Rattle.machine.specs.declared.machine.Machine.{Machine}
 use Rattle.machine.specs.StandsFor.{At, AtAny, Stands, progress_in}
 use Rattle.machine.proofs.Either.{progress_is, variables_are}
 
--- what the variables and the last answer make of a value is the same in each state that the kernel represents
-pub of_state : {A : Type 0} (f : List ℕ → Option ℕ → A) (k : Machine) (s : State) → Stands k s → (task : ℕ)
-    → f k.variables (progress_in k.progress task).answer ≡ f s.variables (progress_at s task).answer
-of_state f k s h task =
-    ap₂ (λ (xs : List ℕ) (p : Progress). f xs p.answer) (variables_are k s h) (progress_is k s h task)
-
 -- the check that fails is the task's op
 pub failed_at : (k new : Machine) (log : List Event) (s : State) → Stands k s → (task : ℕ)
     → At new log (fail (Check task (progress_in k.progress task).op_index) s)

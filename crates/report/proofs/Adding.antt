@@ -22,13 +22,6 @@ pub SentFront_some : {A : Type 0} (f : A → List ℕ) (a b c : Option (List ℕ
 SentFront_some f a b c text page rest sent more =
     SentFront_then a b c text (page ++ flat_map f rest) sent (SentFront_longer b c page (flat_map f rest) more)
 
--- The text of a run in parts: its head line and its first events, its own, and its rest.
-pub parts_of_run : {A : Type 0} (f : A → List ℕ) (head : List ℕ) (first own rest : List A)
-    → head ++ flat_map f (first ++ (own ++ rest)) ≡ (head ++ flat_map f first) ++ (flat_map f own ++ flat_map f rest)
-parts_of_run f head first own rest =
-    rw (flat_map-append f first (own ++ rest), flat_map-append f own rest)
-    (sym (append_assoc head (flat_map f first) (flat_map f own ++ flat_map f rest)))
-
 -- Words are added to a text.
 pub added : (start text page words next : List ℕ) → page ≡ start ++ text → next ≡ page ++ words → next ≡ start ++ (text ++ words)
 added start text page words next so_far put =

@@ -22,10 +22,6 @@ either_assoc a b c =
       or_assoc a.stuck b.stuck c.stuck,
     ) refl
 
-pub either_none : (o : Option Ends) → option_map (either no_end) o ≡ o
-either_none None = refl
-either_none (Some ends) = refl
-
 -- the ends so far, and those of the words that are left
 pub with_more : (so_far : Ends) (word : List ℕ) (words : List (List ℕ)) (named : Ends)
     → ends_named word ≡ Some named → (next : List ℕ) (others : List (List ℕ)) → words ≡ next ∷ others

@@ -26,9 +26,6 @@ use Rattle.requests.specs.Words.{asking, injecting, is_given, point_faults, spel
 use Rattle.requests.specs.Words.{IsJobOf, IsNoNumber, NamesNoOptions, faults_of, number_in, number_of, rtosim_app}
 use Rattle.requests.specs.Words.{value_faults}
 
-pub taken_as : (a b : App) (words : List (List ℕ)) (P : Type 0) → a ≡ b → (takes a words ≡ true → P) → takes b words ≡ true → P
-taken_as a b words P same gives took = gives (rw same took)
-
 is_simple-rtosim : is_simple rtosim_app ≡ true
 unfolding rtosim_app clap_on_literals
 is_simple-rtosim = refl
@@ -119,44 +116,6 @@ pub memory_alone : (kinds : Kinds) (e : Error) → HasKind kinds e → kinds ≡
 memory_alone kinds e is none = elim (subst (λ (k : Kinds). HasKind k e) none is) [ inl memory ↦ memory | inr among ↦ absurd among ]
 
 -- ---- the job of words of `run`
-
-pub run_as : (rows : List Row) (file : List ℕ) (state : Bool) (step : Option ℕ) (a : Asking) (r : Option Job)
-    → first_of (codes "FILE") rows ≡ Some file → is_given (first_of (codes "state") rows) ≡ state → IsStepOf rows step
-    → asking (first_of (codes "point") rows) step (first_of (codes "handler") rows) ≡ a → IsRunWith file state a r
-    → IfSome r (IsRunOf rows)
-run_as rows file state step Base None f s at asks is = tt
-run_as rows file state step Base (Some (Run name None told)) f s at asks is =
-    (rw is.0 f, (step, at, asks), rw is.1 s)
-run_as rows file state step Base (Some (Run name (Some point) told)) f s at asks is = absurd is
-run_as rows file state step Base (Some (RunUnpaired name)) f s at asks is = absurd is
-run_as rows file state step Base (Some (Campaign name view shard options quiet)) f s at asks is = absurd is
-run_as rows file state step Base (Some (Explore name injections handlers)) f s at asks is = absurd is
-run_as rows file state step (Injects pairs) None f s at asks is = tt
-run_as rows file state step (Injects pairs) (Some (Run name (Some point) told)) f s at asks is =
-    (rw is.0 f, (step, at, asks ∙ ap Injects (sym is.2)), rw is.1 s)
-run_as rows file state step (Injects pairs) (Some (Run name None told)) f s at asks is = absurd is
-run_as rows file state step (Injects pairs) (Some (RunUnpaired name)) f s at asks is = absurd is
-run_as rows file state step (Injects pairs) (Some (Campaign name view shard options quiet)) f s at asks is = absurd is
-run_as rows file state step (Injects pairs) (Some (Explore name injections handlers)) f s at asks is = absurd is
-run_as rows file state step Half None f s at asks is = tt
-run_as rows file state step Half (Some (RunUnpaired name)) f s at asks is = (rw is f, (step, at, asks))
-run_as rows file state step Half (Some (Run name point told)) f s at asks is = absurd is
-run_as rows file state step Half (Some (Campaign name view shard options quiet)) f s at asks is = absurd is
-run_as rows file state step Half (Some (Explore name injections handlers)) f s at asks is = absurd is
-run_as rows file state step Nothing None f s at asks is = tt
-run_as rows file state step Nothing (Some (Run name point told)) f s at asks is = absurd is
-run_as rows file state step Nothing (Some (RunUnpaired name)) f s at asks is = absurd is
-run_as rows file state step Nothing (Some (Campaign name view shard options quiet)) f s at asks is = absurd is
-run_as rows file state step Nothing (Some (Explore name injections handlers)) f s at asks is = absurd is
-
-pub no_run_as : (rows : List Row) (file : List ℕ) (state : Bool) (step : Option ℕ) (a : Asking) (r : Option Job)
-    → IsStepOf rows step → asking (first_of (codes "point") rows) step (first_of (codes "handler") rows) ≡ a
-    → IsRunWith file state a r → IsNone r → NamesNoRun rows
-no_run_as rows file state step Base None at asks is none = absurd is
-no_run_as rows file state step (Injects pairs) None at asks is none = absurd is
-no_run_as rows file state step Half None at asks is none = absurd is
-no_run_as rows file state step Nothing None at asks is none = inr (inr (step, at, asks))
-no_run_as rows file state step a (Some job) at asks is none = absurd (cc none)
 
 -- A text that is read as a number is one.
 pub number_read : {E : Type 0} (gives : List ℕ → Result ℕ E → Type 0) (text : Option (List ℕ)) (r : Result (Option ℕ) E)

@@ -58,9 +58,6 @@ some_of_some f xs first total n count l =
 
 -- ---- the cursor
 
-pub start_at : (rows : Rows) → IsAt rows (record { number = 0; place = 0; row = 0 })
-start_at rows = record { within = omega arith; behind = refl }
-
 module _ (rows : Rows) (cursor : Cursor) (at : IsAt rows cursor) where
   -- a row is left, so there is a place
   pub in_places : cursor.number < length (whole rows) → cursor.place < length rows.places.items

@@ -13,26 +13,6 @@ length-placed part [] places = refl
 length-placed part (block ∷ blocks) places =
     length-placed part blocks (set places block.number (place_of part block)) ∙ length-set places block.number (place_of part block)
 
--- one block more
-pub placed_more : (part : ℕ) (blocks : List KeptBlock) (places all : List Place) (index : ℕ) (block : KeptBlock)
-    → index < length blocks → block ≡ slice_index_or blocks index block
-    → placed part (drop index blocks) places ≡ all
-    → placed part (drop (index + 1) blocks) (set places block.number (place_of part block)) ≡ all
-placed_more part blocks places all index block l is before =
-    let first : drop index blocks ≡ block ∷ drop (index + 1) blocks =
-    drop_more blocks index block l ∙ ap (λ (b : KeptBlock). b ∷ drop (index + 1) blocks) (sym is) in
-    ap (λ (bs : List KeptBlock). placed part bs places) (sym first) ∙ before
-
--- one part more
-pub all_placed_more : (parts : List Part) (places all : List Place) (index : ℕ) (part : Part)
-    → index < length parts → part ≡ slice_index_or parts index part
-    → all_placed index (drop index parts) places ≡ all
-    → all_placed (index + 1) (drop (index + 1) parts) (placed index part.blocks.items places) ≡ all
-all_placed_more parts places all index part l is before =
-    let first : drop index parts ≡ part ∷ drop (index + 1) parts =
-    drop_more parts index part l ∙ ap (λ (p : Part). p ∷ drop (index + 1) parts) (sym is) in
-    ap (λ (ps : List Part). all_placed index ps places) (sym first) ∙ before
-
 -- a fact of each
 pub each_at : {X : Type 0} (P : X → Type 0) (xs : List X) (index : ℕ) (x : X)
     → AllByRecursion P xs → index < length xs → x ≡ slice_index_or xs index x → P x

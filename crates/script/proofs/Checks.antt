@@ -23,11 +23,3 @@ pub needed : {X : Type 0} (fault : Fault) (o : Option X) (check : X → Option F
 needed fault None check none = cc
 needed fault (Some x) check none = (x, refl, none)
 
--- What each element's check gives holds of each element.
-pub each_passes : {S X : Type 0} (elements : Elements S X) (P : X → Type 0)
-    → ((s : S) (p : Place) (x : X) → elements.fault s p x ≡ None → P x)
-    → (s : S) (i : ℕ) (xs : List X) → each_fault elements s i xs ≡ None → AllByRecursion P xs
-each_passes elements P gives s i [] none = tt
-each_passes elements P gives s i (x ∷ xs) none =
-    let here = none_fails (elements.fault s (elements.at i) x) _ none in
-    (gives s (elements.at i) x here.0, each_passes elements P gives (elements.next s x) (i + 1) xs (none_fails _ [] here.1).0)

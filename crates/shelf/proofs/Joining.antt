@@ -109,14 +109,3 @@ module _ (app : Application) (limits : Limits) where
 
 -- ---- a stop that is looked at
 
-pub joins_at : (inside now : Shelved) → inside ≡ now → (number : ℕ) (s : Stop)
-    → number < length inside.stops → s ≡ slice_index_or inside.stops number s → (k : Machine) → k ≡ s.kernel
-    → (app : Application) → IsShelf app now → JoinsBase app now.limits now.base k s.before
-joins_at inside now same number s within read k at app h =
-    let found : slice_get inside.stops number ≡ Some s =
-    slice_get_read inside.stops (length inside.stops) number s refl within read in
-    let there : slice_get now.stops number ≡ Some s = ap (λ (shelf : Shelved). slice_get shelf.stops number) (sym same) ∙ found in
-    let joins : JoinsBase app now.limits now.base s.kernel s.before =
-    subst (λ (o : Option Stop). IfSome o (λ (stop : Stop). JoinsBase app now.limits now.base stop.kernel stop.before))
-    there (h.rests number) in
-    subst (λ (m : Machine). JoinsBase app now.limits now.base m s.before) (sym at) joins

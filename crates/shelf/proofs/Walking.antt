@@ -39,12 +39,6 @@ module _ (app : Application) (inside limits : Limits) (same : inside ≡ limits)
       ) in
       rw (← same) (record { way = way; told = long })
 
--- what came behind is left out again
-pub as_before : (before after own cut : List Event) (count : ℕ) → after ≡ before ++ own → count ≡ length before
-    → cut ≡ take count after → cut ≡ before
-as_before before after own cut count kept is taken =
-    rw (taken, kept, is, take-append-le (length before) before own (omega arith)) (take_all (length before) before (omega arith))
-
 -- ---- a row whose walk was refused memory
 
 -- What is true holds where memory was refused.
