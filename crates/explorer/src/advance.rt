@@ -11,13 +11,13 @@ use crate::frontier::Frontier;
 use crate::layer::{Layer, Node};
 use crate::placement::Placement;
 use crate::settling::{Reported, Stepper, settle};
-use kernel::Kernel;
+use kernel::{Kernel, Snapshot};
 use model::{App, HandlerId, Limits, Memory, Meter};
 use std::alloc::Global;
 
 // Puts this many plans, the least of them this one, where they go on from this kernel. Those with
-// injections left go to the live kernels. The others go on up to the end of the block, and then to
-// the spent ones.
+// injections left go to the live kernels, even if they have come to their end: that is found when
+// they are passed. The others go on up to the end of the block, and then to the spent ones.
 fn keep(
     alloc: Global,
     app: &App,
@@ -37,19 +37,7 @@ fn keep(
     ensures count { OnOk result (number_in frontier.new ≡ number_in frontier.old + count) }
 {
     if least.len() + 1 < levels {
-        let here = kernel.steps();
-        settle(
-            alloc,
-            app,
-            limits,
-            here,
-            count,
-            least,
-            kernel,
-            reported,
-            &mut frontier.live,
-            &mut frontier.findings,
-        )
+        frontier.live.add(alloc, app, kernel, count, least)
     } else {
         settle(
             alloc,
@@ -68,6 +56,8 @@ fn keep(
 
 // This many plans, the least of them this one, go on from a kernel with these handlers before the
 // step, if each can come there.
+// Inlined in both places it takes up twice as much of the processor's instruction cache.
+#[inline(never)]
 fn step_by(
     alloc: Global,
     app: &App,
@@ -103,7 +93,7 @@ fn step_by(
     )
 }
 
-// From the stepper's base the plans go on with each of these choices, of one number of handlers.
+// From the kernel of a snapshot the plans go on with each of these choices, of one number of handlers.
 fn step_by_each(
     alloc: Global,
     app: &App,
@@ -113,20 +103,20 @@ fn step_by_each(
     count: u128,
     least: &Placement,
     level: &[Choice],
+    base: &Snapshot,
     stepper: &mut Stepper,
     frontier: &mut Frontier,
 ) -> Result<(), Memory>
-    requires way { HasWay app.now limits.now stepper.old.base least.now }
-    requires goes { GoesOn app.now limits.now stepper.old.base }
+    requires way { HasWay app.now limits.now base.now least.now }
+    requires goes { GoesOn app.now limits.now base.now }
     requires few { AllByRecursion (λ now. length least.now + length now ≤ 3) level.now }
-    requires ahead { stepper.old.base.steps < until }
+    requires ahead { base.now.steps < until }
     requires room { number_in frontier.old + length level.now * count < 2 ^ 128 }
-    ensures base { stepper.new.base ≡ stepper.old.base }
-    ensures takes { OnOk result (TakesBy app.now limits.now levels until stepper.old.base count least.now level.now frontier.old frontier.new) }
+    ensures takes { OnOk result (TakesBy app.now limits.now levels until base.now count least.now level.now frontier.old frontier.new) }
     ensures count { OnOk result (number_in frontier.new ≤ number_in frontier.old + length level.now * count) }
 {
     for now in level {
-        stepper.kernel.set_from(&stepper.base);
+        stepper.kernel.restore(base);
         step_by(
             alloc,
             app,
@@ -144,7 +134,7 @@ fn step_by_each(
     Ok(())
 }
 
-// From the stepper's base the plans go on with each choice of these levels.
+// From the kernel of a snapshot the plans go on with each choice of these levels.
 fn step_by_levels(
     alloc: Global,
     app: &App,
@@ -154,16 +144,16 @@ fn step_by_levels(
     count: u128,
     least: &Placement,
     levels: &[Level],
+    base: &Snapshot,
     stepper: &mut Stepper,
     frontier: &mut Frontier,
 ) -> Result<(), Memory>
-    requires way { HasWay app.now limits.now stepper.old.base least.now }
-    requires goes { GoesOn app.now limits.now stepper.old.base }
+    requires way { HasWay app.now limits.now base.now least.now }
+    requires goes { GoesOn app.now limits.now base.now }
     requires few { AllByRecursion (λ level. AllByRecursion (λ now. length least.now + length now ≤ 3) level) levels.now }
-    requires ahead { stepper.old.base.steps < until }
+    requires ahead { base.now.steps < until }
     requires room { number_in frontier.old + length (flat_map (λ level. level) levels.now) * count < 2 ^ 128 }
-    ensures base { stepper.new.base ≡ stepper.old.base }
-    ensures takes { OnOk result (TakesBy app.now limits.now all until stepper.old.base count least.now
+    ensures takes { OnOk result (TakesBy app.now limits.now all until base.now count least.now
         (flat_map (λ level. level) levels.now) frontier.old frontier.new) }
     ensures count { OnOk result (number_in frontier.new
         ≤ number_in frontier.old + length (flat_map (λ level. level) levels.now) * count) }
@@ -178,6 +168,7 @@ fn step_by_levels(
             count,
             least,
             level.as_slice(),
+            base,
             stepper,
             frontier,
         )?;
@@ -185,48 +176,60 @@ fn step_by_levels(
     Ok(())
 }
 
-// From the stepper's base the plans go on with each choice of as many handlers as they have left.
-// That no handler comes is the last, since that needs no copy of the kernel.
+// From the kernel of a node, which the stepper has, the plans go on with each choice of as many
+// handlers as they have left. That no handler comes is the first, since that needs no other copy of
+// the kernel.
 fn go_on(
     alloc: Global,
     app: &App,
     limits: &Limits,
     choices: &Choices,
     until: u32,
-    count: u128,
-    least: &Placement,
+    node: &Node,
     stepper: &mut Stepper,
     frontier: &mut Frontier,
 ) -> Result<(), Memory>
-    requires way { HasWay app.now limits.now stepper.old.base least.now }
-    requires goes { GoesOn app.now limits.now stepper.old.base }
+    requires there { stepper.old.kernel ≡ node.now.kernel.value }
+    requires way { HasWay app.now limits.now node.now.kernel.value node.now.least }
+    requires goes { GoesOn app.now limits.now node.now.kernel.value }
     requires levels { AreLevels choices.now.handlers.items choices.now.levels.items }
     requires few { length choices.now.levels.items ≤ 4 }
-    requires left { length least.now < length choices.now.levels.items }
-    requires ahead { stepper.old.base.steps < until }
+    requires left { length node.now.least < length choices.now.levels.items }
+    requires ahead { node.now.kernel.value.steps < until }
     requires room { number_in frontier.old
-        + length (nows_of choices.now.handlers.items (length choices.now.levels.items) least.now) * count < 2 ^ 128 }
-    ensures { OnOk result (TakesBy app.now limits.now (length choices.now.levels.items) until stepper.old.base count least.now
-        (nows_of choices.now.handlers.items (length choices.now.levels.items) least.now) frontier.old frontier.new) }
+        + length (nows_of choices.now.handlers.items (length choices.now.levels.items) node.now.least) * node.now.count < 2 ^ 128 }
+    ensures { OnOk result (TakesBy app.now limits.now (length choices.now.levels.items) until node.now.kernel.value node.now.count
+        node.now.least (nows_of choices.now.handlers.items (length choices.now.levels.items) node.now.least)
+        frontier.old frontier.new) }
 {
-    let left = choices.levels.len() - least.len();
     let all = choices.levels.len();
+    let left = all - node.least.len();
     let (up_to_most, _) = choices.levels.as_slice().split_at(left);
     let (_, some) = up_to_most.split_at(1);
-    step_by_levels(
-        alloc, app, limits, all, until, count, least, some, stepper, frontier,
-    )?;
     step_by(
         alloc,
         app,
         limits,
         all,
         until,
-        count,
-        least,
+        node.count,
+        &node.least,
         &[],
-        &mut stepper.base,
+        &mut stepper.kernel,
         &mut stepper.reported,
+        frontier,
+    )?;
+    step_by_levels(
+        alloc,
+        app,
+        limits,
+        all,
+        until,
+        node.count,
+        &node.least,
+        some,
+        &node.kernel,
+        stepper,
         frontier,
     )
 }
@@ -238,45 +241,34 @@ fn pass(
     limits: &Limits,
     choices: &Choices,
     until: u32,
-    node: Node,
+    node: &Node,
     stepper: &mut Stepper,
     frontier: &mut Frontier,
 ) -> Result<(), Memory>
-    requires way { HasWay app.now limits.now node.kernel.value node.least }
+    requires way { HasWay app.now limits.now node.now.kernel.value node.now.least }
     requires levels { AreLevels choices.now.handlers.items choices.now.levels.items }
     requires few { length choices.now.levels.items ≤ 4 }
-    requires left { length node.least < length choices.now.levels.items }
-    requires ahead { node.kernel.value.steps < until }
+    requires left { length node.now.least < length choices.now.levels.items }
+    requires ahead { node.now.kernel.value.steps < until }
     requires room { number_in frontier.old
-        + length (nows_of choices.now.handlers.items (length choices.now.levels.items) node.least) * node.count < 2 ^ 128 }
-    requires found { number_in frontier.old + node.count < 2 ^ 128 }
+        + length (nows_of choices.now.handlers.items (length choices.now.levels.items) node.now.least) * node.now.count < 2 ^ 128 }
+    requires found { number_in frontier.old + node.now.count < 2 ^ 128 }
     ensures { OnOk result (Passes app.now limits.now choices.now.handlers.items (length choices.now.levels.items)
-        until node frontier.old frontier.new) }
+        until node.now frontier.old frontier.new) }
 {
-    stepper.base.restore(&node.kernel);
-    frontier.live.keep_memory(node.kernel);
-    match stepper.base.ended(app, limits) {
+    stepper.kernel.restore(&node.kernel);
+    match stepper.kernel.ended(app, limits) {
         Some(end) => count_end(
             &mut frontier.findings,
             Found {
                 number: node.count,
-                least: node.least,
-                steps: stepper.base.steps(),
-                ticks: stepper.base.ticks(),
+                least: node.least.copy(),
+                steps: stepper.kernel.steps(),
+                ticks: stepper.kernel.ticks(),
                 end,
             },
         ),
-        None => go_on(
-            alloc,
-            app,
-            limits,
-            choices,
-            until,
-            node.count,
-            &node.least,
-            stepper,
-            frontier,
-        ),
+        None => go_on(alloc, app, limits, choices, until, node, stepper, frontier),
     }
 }
 
@@ -300,7 +292,8 @@ pub(crate) fn advance(
 {
     frontier.take_live(alloc, layer);
     while let Some(node) = layer.nodes.pop() {
-        pass(alloc, app, limits, choices, until, node, stepper, frontier)?;
+        pass(alloc, app, limits, choices, until, &node, stepper, frontier)?;
+        frontier.live.keep_memory(node.kernel);
     }
     Ok(())
 }
