@@ -240,7 +240,7 @@ def sources_that_are_edited_meanwhile_are_named_where_the_answers_differ(a):
 
 @case
 def a_reader_that_leaves_does_not_end_the_proof(a):
-    for stream, status in (("stdout", 5), ("stderr", 0)):
+    for stream, status in (("stdout", 141), ("stderr", 0)):
         ours, theirs = os.pipe()
         os.close(ours)
         a.write("crates/low/src/lib.rt", f"{stream}\n")

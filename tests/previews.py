@@ -165,9 +165,11 @@ def a_signal_ends_a_preview_and_what_it_started(a):
 def a_preview_whose_reader_leaves_ends_as_the_program_does(a):
     ours, theirs = os.pipe()
     os.close(ours)
-    equal(a.started("--preview", "x", stdout=theirs).wait(timeout=PATIENCE), 5)
+    equal(a.started("--preview", "x", stdout=theirs).wait(timeout=PATIENCE), 141)
     equal(a.started("--preview", "x", stderr=theirs, stdout=subprocess.DEVNULL).wait(timeout=PATIENCE), 0)
     os.close(theirs)
+    with open("/dev/full", "wb") as full:
+        equal(a.started("--preview", "x", stdout=full).wait(timeout=PATIENCE), 5)
 
 
 @case

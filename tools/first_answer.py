@@ -24,7 +24,7 @@ NO_ANSWER = "there is no answer before the proof, for what is said above"
 STAYS_UNPROVED = "the answer above isn't proved"
 CHANGED = "the sources were changed after it"
 NOW_PROVED = "the same call now prints the proved one"
-NO_MEMORY, CANNOT_WRITE, DIFFERS = 4, 5, 70
+NO_MEMORY, DIFFERS = 4, 70
 BYTES = 1 << 16
 
 
@@ -51,13 +51,13 @@ class FirstAnswer:
         self.room, self.sources = room, sources
         self.before, self.files = sources(), previewing.Files(words, room)
         # Of nothing, until it is given.
-        self.answer, self.has_written = previewing.Answer(b"", b"", None), True
+        self.answer, self.write_fault = previewing.Answer(b"", b"", None), 0
 
     def give(self) -> None:
         """Prints the answer of a preview, if it has one."""
         say(BEFORE)
         self.answer = self.of_a_preview()
-        self.has_written = pass_on(1, self.answer.out)
+        self.write_fault = pass_on(1, self.answer.out)
         pass_on(2, self.files.as_called(self.answer.err))
         say(UNPROVED if self.was_given() else NO_ANSWER)
 
@@ -90,7 +90,7 @@ class FirstAnswer:
             say(f"the proved program gives another answer, which differs {difference}{also}: {STAYS_UNPROVED}; {NOW_PROVED}")
             return DIFFERS
         say(f"proved: the same {len(self.answer.out)} bytes")
-        return CANNOT_WRITE if self.answer.status is None or not self.has_written else self.answer.status
+        return self.write_fault or self.answer.status or 0
 
     def difference(self, how: Dict[str, Any]) -> Optional[str]:
         """How the proved program's answer differs from the one that was given; None if it doesn't."""

@@ -18,6 +18,7 @@ import proving
 ROOT = proving.ROOT
 SECONDS = 60
 MOST_WRITTEN = "1 MiB"
+CANNOT_WRITE, READER_LEFT = 5, 141
 # The last line of `rt try`, if the program ended by itself, and those with which it reports on the run.
 HAS_ENDED = re.compile(r"run=ended status=(\d+) .*\bproved=no")
 ABOUT_THE_RUN = re.compile(r"(?:interpreter|checked|races): |run=")
@@ -32,15 +33,17 @@ def say(text: str) -> None:
     pass_on(2, f"rtosim: {text}\n".encode(errors="surrogateescape"))
 
 
-def pass_on(stream: int, text: bytes) -> bool:
-    """Writes all of the text, and returns whether it could."""
+def pass_on(stream: int, text: bytes) -> int:
+    """Writes all of the text. Returns 0, or the status with which the program ends if its output can't be written."""
     at = 0
     try:
         while at < len(text):
             at += os.write(stream, text[at:])
+    except BrokenPipeError:
+        return READER_LEFT
     except OSError:
-        return False
-    return True
+        return CANNOT_WRITE
+    return 0
 
 
 class Files:

@@ -28,21 +28,23 @@ const STATUSES: &str = "Exit status:
   3  the file can't be read, is not TOML, describes no application, or has
      more than 1000000 points
   4  no memory is left
-  5  the report can't be written";
+  5  the report can't be written
+  141  the reader of the output has left, as in: rtosim run FILE | head";
 
 // What is said of a list that is none, and of a shard.
 const BAD_LIST: &str =
-    "the value of '--only' is pass, check, misuse, ticks, steps, stuck or failing, or several of them joined by commas";
+    "the value of '--only' must be pass, check, misuse, ticks, steps, stuck or failing, or several of them joined by commas";
 
-const BAD_SHARD: &str = "the value of '--shard' is I/N, where N is 1 to 1000000 and I is 1 to N";
+const BAD_SHARD: &str =
+    "the value of '--shard' must be I/N, with N from 1 to 1000000 and I from 1 to N";
 
 // What is said of a point that is none, or that isn't alone.
 const BAD_POINT: &str =
-    "the value of '--point' is STEP HANDLER, once to three times, and it goes with neither '--at' nor '--handler'";
+    "the value of '--point' must be STEP HANDLER, one to three times, and '--at' and '--handler' can't be given with it";
 
 // What is said of handlers that are none.
 const BAD_HANDLERS: &str =
-    "the value of '--handlers' is the name of a handler, or several different ones joined by commas";
+    "the value of '--handlers' must be the name of a handler, or several different ones joined by commas";
 
 // The latest step before which a handler can be injected (profile).
 const MOST_STEP: u32 = 1_000_000;
@@ -87,36 +89,34 @@ fn at_argument<'a>(alloc: Global) -> Arg<'a>
 {
     valued_argument(alloc, "at", "STEP")
         .value_parser(value_parser!(u32).range(..=i64::from(MOST_STEP)))
-        .help("The step, 0 to 1000000, before which the handler is injected")
+        .help("Injects the handler before this step, 0 to 1000000")
 }
 
 fn only_argument<'a>(alloc: Global) -> Arg<'a>
     ensures { IsArgOf only_rule result }
 {
     valued_argument(alloc, "only", "LIST").help(
-        "Ends of rows to write: pass,check,misuse,ticks,steps,stuck,failing",
+        "Writes only rows with these ends: pass,check,misuse,ticks,steps,stuck,failing",
     )
 }
 
 fn heads_argument<'a>(alloc: Global) -> Arg<'a>
     ensures { IsArgOf heads_rule result }
 {
-    flag_argument(alloc, "heads").help("Writes the head line of each row, and no events")
+    flag_argument(alloc, "heads").help("Writes only head lines")
 }
 
 fn shard_argument<'a>(alloc: Global) -> Arg<'a>
     ensures { IsArgOf shard_rule result }
 {
-    valued_argument(alloc, "shard", "I/N").help(
-        "Part of the points to run: the one of number I of N parts",
-    )
+    valued_argument(alloc, "shard", "I/N").help("Runs only part I of N")
 }
 
 fn handler_argument<'a>(alloc: Global) -> Arg<'a>
     ensures { IsArgOf handler_rule result }
 {
     valued_argument(alloc, "handler", "HANDLER").help(
-        "The handler that is injected, by its name in the file",
+        "The handler to inject: its name in the file, or tick for a tick",
     )
 }
 
@@ -124,7 +124,7 @@ fn point_argument<'a>(alloc: Global) -> Arg<'a>
     ensures { IsArgOf point_rule result }
 {
     valued_argument(alloc, "point", "POINT").help(
-        "Injections in the place of these two: 'STEP HANDLER STEP HANDLER ..'",
+        "Injects up to three handlers, instead of these two: 'STEP HANDLER STEP HANDLER ..'",
     )
 }
 
@@ -139,21 +139,21 @@ fn state_argument<'a>(alloc: Global) -> Arg<'a>
     ensures { IsArgOf state_rule result }
 {
     flag_argument(alloc, "state").help(
-        "Adds what each task is doing at the end, and who holds which mutex",
+        "Also writes the state at the end: of tasks, mutexes and variables",
     )
 }
 
 fn quiet_argument<'a>(alloc: Global) -> Arg<'a>
     ensures { IsArgOf quiet_rule result }
 {
-    flag_argument(alloc, "quiet").help("Hides how far the campaign has come, not rows")
+    flag_argument(alloc, "quiet").help("Doesn't show progress")
 }
 
 fn workers_argument<'a>(alloc: Global) -> Arg<'a>
     ensures { IsArgOf workers_rule result }
 {
     number_argument(alloc, "workers", "N", 64, "1").help(
-        "Threads that work on the campaign, 1 to 64, or auto: one a processor",
+        "Runs the points in this many threads, 1 to 64, or auto: one per processor",
     )
 }
 
@@ -161,7 +161,7 @@ fn stride_argument<'a>(alloc: Global) -> Arg<'a>
     ensures { IsArgOf stride_rule result }
 {
     number_argument(alloc, "stride", "S", 65_536, "64").help(
-        "Steps between two kept states of the base run, 1 to 65536",
+        "Keeps the state of the base run every S steps, 1 to 65536",
     )
 }
 
@@ -169,7 +169,7 @@ fn block_argument<'a>(alloc: Global) -> Arg<'a>
     ensures { IsArgOf block_rule result }
 {
     number_argument(alloc, "block", "B", 1_000_000, "512").help(
-        "Points that a worker takes at once at most, 1 to 1000000",
+        "Gives a thread up to B points at once, 1 to 1000000",
     )
 }
 
@@ -179,14 +179,14 @@ fn injections_argument<'a>(alloc: Global) -> Arg<'a>
     valued_argument(alloc, "injections", "K")
         .value_parser(value_parser!(u32).range(..=i64::from(MostInjections::MOST)))
         .default_value("1")
-        .help("Injections that a placement has at most, 0 to 3")
+        .help("Injects up to K handlers in a run, 0 to 3")
 }
 
 fn handlers_argument<'a>(alloc: Global) -> Arg<'a>
     ensures { IsArgOf handlers_rule result }
 {
     valued_argument(alloc, "handlers", "NAMES").help(
-        "Handlers that are injected, by their names, joined by commas; otherwise all",
+        "Injects only these handlers, joined by commas, and ticks only if tick is among them",
     )
 }
 
@@ -249,7 +249,7 @@ fn explore_command<'a>(alloc: Global) -> Result<Command<'a>, AllocError>
     described_command(
         alloc,
         "explore",
-        "Counts how the runs with all placements of a few injections end",
+        "Runs every placement of up to K injections, and counts how the runs end",
     )
     .args(arguments)
 }

@@ -5,9 +5,10 @@
 mod counter;
 
 use crate::counter::Counter;
-use byte_io::ToWriter;
+use byte_io::{Messages, Output, ToWriter};
 use campaign::ServeFault;
 use jobs::{obey, refuse};
+use std::cell::Cell;
 use std::io;
 use std::num::NonZeroUsize;
 use std::process::ExitCode;
@@ -18,6 +19,10 @@ const LARGE_STACK: usize = 880_640;
 
 // And a run that nothing else is asked of.
 const STACK: usize = 323_584;
+
+// The status if the reader of standard output left: 128 and the number of SIGPIPE, as a shell reports a program that this signal ended
+// (profile).
+const READER_LEFT: u8 = 141;
 
 // Takes the stack of a campaign, and gives it back: it stays the program's. So
 // if a limit on all memory leaves no room for it, the program ends before it has done anything, and
@@ -83,14 +88,18 @@ fn main(rt: HostRuntime) -> ExitCode {
         // This never comes, but the stack is not left out for it.
         return ExitCode::from(4);
     }
+    let reader_left = Cell::new(false);
     let status = obey(
         &rt,
         rt.alloc(),
         arguments.as_slice(),
         processors(&rt, arguments.as_slice()),
-        &mut ToWriter::new(rt.stdout()),
-        &mut ToWriter::new(rt.stderr()),
+        &mut Output::new(rt.stdout(), &reader_left),
+        &mut Messages::new(rt.stderr(), &reader_left),
         &Counter::new(&rt),
     );
+    if reader_left.get() {
+        return ExitCode::from(READER_LEFT);
+    }
     ExitCode::from(status)
 }
