@@ -9,6 +9,19 @@ use Rattle.byte_io.specs.Line.{piece_text, joined_line}
 use Rattle.byte_io.specs.declared.line.Piece.{Piece}
 use Rattle.jobs.specs.Acting.{Tells}
 
+cons_option-append : {X : Type 0} (o : Option X) (rest : List X) → cons_option o [] ++ rest ≡ cons_option o rest
+cons_option-append None rest = refl
+cons_option-append (Some x) rest = refl
+
+-- the words so far, and those that are left
+pub words_left : {X Y : Type 0} (h : X → Option Y) (xs : List X) (i : ℕ) (d : X) (before after : List Y)
+    → i < length xs → after ≡ before ++ cons_option (h (get_or xs i d)) []
+    → after ++ filter_map h (drop (i + 1) xs) ≡ before ++ filter_map h (drop i xs)
+words_left h xs i d before after within is =
+    let first : drop i xs ≡ get_or xs i d ∷ drop (i + 1) xs = grind (arith, drop-cons, common_steps) in
+    rw (is, first) (append_assoc before (cons_option (h (get_or xs i d)) []) (filter_map h (drop (i + 1) xs))
+    ∙ ap (λ l. before ++ l) (cons_option-append (h (get_or xs i d)) (filter_map h (drop (i + 1) xs))))
+
 -- Pieces with these texts were written.
 pub told_by_writes : {T E : Type 0} (old new : Option (List ℕ)) (failed : Bool)
     (r : Result T E) (written pieces : List Piece) (texts : List (List ℕ))

@@ -130,3 +130,21 @@ module _ (app : Application) (formed : IsWellFormed app) (task op_index : ℕ) (
   pub index_and_word_short : length (decimal op_index) + length (word_at app task op_index) ≤ 21
   index_and_word_short = with_word (op_at app task op_index) refl
 
+command_short : (clear : Bool) → length (if clear then codes "clear" else codes "set") ≤ 18
+command_short true = lit≤ tt
+command_short false = lit≤ tt
+
+-- So has that of an op of a handler.
+pub isr_word_short : (op : IsrOp) → length (word_of_isr op) ≤ 18
+isr_word_short (isr_op.Do o a) = access_short a
+isr_word_short (isr_op.Command c) = command_short c.clear
+isr_word_short (isr_op.Resume t) = lit≤ tt
+isr_word_short (isr_op.GetBits g) = lit≤ tt
+isr_word_short (isr_op.Notify t a) = lit≤ tt
+isr_word_short (isr_op.Mark n) = lit≤ tt
+isr_word_short (isr_op.Expect c) = lit≤ tt
+isr_word_short (isr_op.If c) = lit≤ tt
+isr_word_short isr_op.Else = lit≤ tt
+isr_word_short isr_op.EndIf = lit≤ tt
+isr_word_short (isr_op.Source h op) = source_short op
+isr_word_short (isr_op.Value v) = value_short v

@@ -9,6 +9,11 @@ pub meant_from : (is_verbatim : Bool) (workers before : List ℕ) (words : List 
 meant_from true workers before words = words
 meant_from false workers before words = meant_after workers before words
 
+pub meant_all : (workers before : List ℕ) (words : List (List ℕ))
+    → meant_from false workers before words ≡ meant_after workers before words
+unfolding meant_from
+meant_all workers before words = refl
+
 meant_none : (v : Bool) (workers before : List ℕ) → meant_from v workers before [] ≡ []
 unfolding meant_from meant_after
 meant_none true workers before = refl
