@@ -20,14 +20,21 @@ const ITEMS: usize = 256 * OBJECTS;
 /// The last object's place, whose region ends the pool's front.
 const LAST: usize = OBJECTS - 1;
 
-/// The items of all queues, in one pool.
-#[derive(Drop)]
-pub(crate) struct Items {
-    pool: [u32; ITEMS],
+/// Of each queue where its region of the pool begins and how long it is, and where in it its first item is and how many it has. They
+/// are copied as one run of bytes.
+#[derive(Clone, Copy)]
+struct Regions {
     bases: [u16; OBJECTS],
     lengths: [u16; OBJECTS],
     heads: [u16; OBJECTS],
     counts: [u16; OBJECTS],
+}
+
+/// The items of all queues, in one pool.
+#[derive(Drop)]
+pub(crate) struct Items {
+    pool: [u32; ITEMS],
+    regions: Regions,
 }
 
 // Clauses see the objects of the definitions.
@@ -38,19 +45,16 @@ impl Model for Items {
 
     ghost Value = { List Object };
 
-    ghost view = { λ s. objects_of (record { pool = s.pool; bases = s.bases; lengths = s.lengths; heads = s.heads; counts = s.counts }) };
+    ghost view = { λ s. objects_of (record { pool = s.pool; bases = s.regions.bases; lengths = s.regions.lengths; heads = s.regions.heads; counts = s.regions.counts }) };
 
-    ghost invariant = { λ s. IsItems (record { pool = s.pool; bases = s.bases; lengths = s.lengths; heads = s.heads; counts = s.counts }) };
+    ghost invariant = { λ s. IsItems (record { pool = s.pool; bases = s.regions.bases; lengths = s.regions.lengths; heads = s.regions.heads; counts = s.regions.counts }) };
 }
 
 /// The items of all queues as they once were: of the pool only the regions of the queues.
 #[derive(Drop)]
 pub(crate) struct ItemsSnapshot {
     pool: Vec<u32>,
-    bases: [u16; OBJECTS],
-    lengths: [u16; OBJECTS],
-    heads: [u16; OBJECTS],
-    counts: [u16; OBJECTS],
+    regions: Regions,
 }
 
 // Clauses see the objects of the definitions, as they were.
@@ -61,9 +65,9 @@ impl Model for ItemsSnapshot {
 
     ghost Value = { List Object };
 
-    ghost view = { λ s. objects_of (record { pool = s.pool.items; bases = s.bases; lengths = s.lengths; heads = s.heads; counts = s.counts }) };
+    ghost view = { λ s. objects_of (record { pool = s.pool.items; bases = s.regions.bases; lengths = s.regions.lengths; heads = s.regions.heads; counts = s.regions.counts }) };
 
-    ghost invariant = { λ s. IsFront (record { pool = s.pool.items; bases = s.bases; lengths = s.lengths; heads = s.heads; counts = s.counts }) };
+    ghost invariant = { λ s. IsFront (record { pool = s.pool.items; bases = s.regions.bases; lengths = s.regions.lengths; heads = s.regions.heads; counts = s.regions.counts }) };
 }
 
 /// A place in a region of a size, counted on around it.
@@ -132,10 +136,12 @@ impl Items {
         }
         Items {
             pool: [0; ITEMS],
-            bases,
-            lengths: sizes,
-            heads: [0; OBJECTS],
-            counts: [0; OBJECTS],
+            regions: Regions {
+                bases,
+                lengths: sizes,
+                heads: [0; OBJECTS],
+                counts: [0; OBJECTS],
+            },
         }
     }
 
@@ -145,7 +151,7 @@ impl Items {
         ensures len { result ≡ length (object_in self.now queue).items }
         ensures sound { IsSound self.now }
     {
-        self.counts[queue] as usize
+        self.regions.counts[queue] as usize
     }
 
     /// The number of items that a queue still has room for.
@@ -154,7 +160,7 @@ impl Items {
         ensures room { result + length (object_in self.now queue).items ≡ (object_in self.now queue).size }
         ensures sound { IsSound self.now }
     {
-        (self.lengths[queue] - self.counts[queue]) as usize
+        (self.regions.lengths[queue] - self.regions.counts[queue]) as usize
     }
 
     /// The item that leaves a queue first; `None` if it is empty.
@@ -163,10 +169,10 @@ impl Items {
         ensures first { result ≡ slice_get (object_in self.now queue).items 0 }
         ensures sound { IsSound self.now }
     {
-        if self.counts[queue] == 0 {
+        if self.regions.counts[queue] == 0 {
             None
         } else {
-            Some(self.pool[self.bases[queue] as usize + self.heads[queue] as usize])
+            Some(self.pool[self.regions.bases[queue] as usize + self.regions.heads[queue] as usize])
         }
     }
 
@@ -178,9 +184,12 @@ impl Items {
             (holding (object_in self.old queue) ((object_in self.old queue).items ++ item ∷ [])) }
         ensures sound { IsSound self.new }
     {
-        let at = wrapped(self.lengths[queue], self.heads[queue] + self.counts[queue]);
-        self.pool[self.bases[queue] as usize + at as usize] = item;
-        self.counts[queue] += 1;
+        let at = wrapped(
+            self.regions.lengths[queue],
+            self.regions.heads[queue] + self.regions.counts[queue],
+        );
+        self.pool[self.regions.bases[queue] as usize + at as usize] = item;
+        self.regions.counts[queue] += 1;
     }
 
     /// Puts an item before those of a queue that has room (see `room`).
@@ -191,11 +200,11 @@ impl Items {
             (holding (object_in self.old queue) (item ∷ (object_in self.old queue).items)) }
         ensures sound { IsSound self.new }
     {
-        let size = self.lengths[queue];
-        let head = wrapped(size, self.heads[queue] + size - 1);
-        self.pool[self.bases[queue] as usize + head as usize] = item;
-        self.heads[queue] = head;
-        self.counts[queue] += 1;
+        let size = self.regions.lengths[queue];
+        let head = wrapped(size, self.regions.heads[queue] + size - 1);
+        self.pool[self.regions.bases[queue] as usize + head as usize] = item;
+        self.regions.heads[queue] = head;
+        self.regions.counts[queue] += 1;
     }
 
     /// Takes the first item out of a queue; `None` if it is empty.
@@ -207,13 +216,13 @@ impl Items {
             (holding (object_in self.old queue) (drop 1 (object_in self.old queue).items)) }
         ensures sound { IsSound self.new }
     {
-        if self.counts[queue] == 0 {
+        if self.regions.counts[queue] == 0 {
             return None;
         }
-        let head = self.heads[queue];
-        let item = self.pool[self.bases[queue] as usize + head as usize];
-        self.heads[queue] = wrapped(self.lengths[queue], head + 1);
-        self.counts[queue] -= 1;
+        let head = self.regions.heads[queue];
+        let item = self.pool[self.regions.bases[queue] as usize + head as usize];
+        self.regions.heads[queue] = wrapped(self.regions.lengths[queue], head + 1);
+        self.regions.counts[queue] -= 1;
         Some(item)
     }
 
@@ -225,8 +234,8 @@ impl Items {
             (holding (object_in self.old queue) (item ∷ [])) }
         ensures sound { IsSound self.new }
     {
-        self.pool[self.bases[queue] as usize + self.heads[queue] as usize] = item;
-        self.counts[queue] = 1;
+        self.pool[self.regions.bases[queue] as usize + self.regions.heads[queue] as usize] = item;
+        self.regions.counts[queue] = 1;
     }
 
     /// Makes the queues those of another storage. What is in the pool after the last region is not copied.
@@ -234,28 +243,22 @@ impl Items {
         ensures same { self.new ≡ other.now }
         ensures sound { IsSound self.new }
     {
-        let used = other.bases[LAST] as usize + other.lengths[LAST] as usize;
+        let used = other.regions.bases[LAST] as usize + other.regions.lengths[LAST] as usize;
         self.pool[..used].copy_from_slice(&other.pool[..used]);
-        self.bases = other.bases;
-        self.lengths = other.lengths;
-        self.heads = other.heads;
-        self.counts = other.counts;
+        self.regions = other.regions;
     }
 
     /// The queues as they are now, with no more of the pool than the regions of the queues.
     pub(crate) fn snapshot(&self, alloc: Global) -> Result<ItemsSnapshot, Memory>
         ensures { IfOk result (λ snapshot. snapshot ≡ self.now) }
     {
-        let used = self.bases[LAST] as usize + self.lengths[LAST] as usize;
+        let used = self.regions.bases[LAST] as usize + self.regions.lengths[LAST] as usize;
         let mut pool = Vec::new(alloc);
         pool.reserve_exact(used)?;
         pool.extend_from_slice(&self.pool[..used])?;
         Ok(ItemsSnapshot {
             pool,
-            bases: self.bases,
-            lengths: self.lengths,
-            heads: self.heads,
-            counts: self.counts,
+            regions: self.regions,
         })
     }
 
@@ -264,15 +267,12 @@ impl Items {
     pub(crate) fn save(&self, snapshot: &mut ItemsSnapshot) -> bool
         ensures { result ≡ true → snapshot.new ≡ self.now }
     {
-        let end = self.bases[LAST] as usize + self.lengths[LAST] as usize;
+        let end = self.regions.bases[LAST] as usize + self.regions.lengths[LAST] as usize;
         if snapshot.pool.len() != end {
             return false;
         }
         snapshot.pool.copy_from_slice(&self.pool[..end]);
-        snapshot.bases = self.bases;
-        snapshot.lengths = self.lengths;
-        snapshot.heads = self.heads;
-        snapshot.counts = self.counts;
+        snapshot.regions = self.regions;
         true
     }
 
@@ -282,18 +282,18 @@ impl Items {
         ensures { result ≡ true → self.now ≡ snapshot.now }
     {
         // If queues differ, a count usually does.
-        if !are_same(&self.counts, &snapshot.counts)
-            || !are_same(&self.lengths, &snapshot.lengths)
+        if !are_same(&self.regions.counts, &snapshot.regions.counts)
+            || !are_same(&self.regions.lengths, &snapshot.regions.lengths)
         {
             return false;
         }
         // Most queues are empty, as they then are in both.
-        let mut queue = first_nonzero(&self.counts, 0);
+        let mut queue = first_nonzero(&self.regions.counts, 0);
         while queue < OBJECTS {
             if !self.is_queue_at(queue, snapshot) {
                 return false;
             }
-            queue = first_nonzero(&self.counts, queue + 1);
+            queue = first_nonzero(&self.regions.counts, queue + 1);
         }
         true
     }
@@ -303,16 +303,16 @@ impl Items {
         requires { queue < object_places }
         ensures { result ≡ true → object_in self.now queue ≡ object_in snapshot.now queue }
     {
-        let size = self.lengths[queue];
-        let count = self.counts[queue];
-        if size != snapshot.lengths[queue] || count != snapshot.counts[queue] {
+        let size = self.regions.lengths[queue];
+        let count = self.regions.counts[queue];
+        if size != snapshot.regions.lengths[queue] || count != snapshot.regions.counts[queue] {
             return false;
         }
-        let base = self.bases[queue] as usize;
-        let snapshot_base = snapshot.bases[queue] as usize;
+        let base = self.regions.bases[queue] as usize;
+        let snapshot_base = snapshot.regions.bases[queue] as usize;
         for index in 0..count {
-            let at = wrapped(size, self.heads[queue] + index);
-            let snapshot_at = wrapped(size, snapshot.heads[queue] + index);
+            let at = wrapped(size, self.regions.heads[queue] + index);
+            let snapshot_at = wrapped(size, snapshot.regions.heads[queue] + index);
             if self.pool[base + at as usize]
                 != snapshot.pool[snapshot_base + snapshot_at as usize]
             {
@@ -329,9 +329,6 @@ impl Items {
     {
         let used = snapshot.pool.len();
         self.pool[..used].copy_from_slice(snapshot.pool.as_slice());
-        self.bases = snapshot.bases;
-        self.lengths = snapshot.lengths;
-        self.heads = snapshot.heads;
-        self.counts = snapshot.counts;
+        self.regions = snapshot.regions;
     }
 }

@@ -37,17 +37,17 @@ wrapped-snapshot_at-requires c =
 pub index-requires : goal.index-requires
 index-requires c =
     let within =
-    within_front c.snapshot.invariant c.args.queue c.loop-index.index (get_or c.self.inside.lengths c.args.queue 0)
+    within_front c.snapshot.invariant c.args.queue c.loop-index.index (get_or c.self.inside.regions.lengths c.args.queue 0)
     c.wrapped-snapshot_at.result c.requires (omega arith) (omega arith) c.wrapped-snapshot_at.ensures.wrapped in
     omega (arith, within)
 
 pub loop-index-preserved : goal.loop-index-preserved
 loop-index-preserved c = below_more _ _ c.loop-index.invariant
-    (ap (λ (place : ℕ). get_or c.self.inside.pool (get_or c.self.inside.bases c.args.queue 0 + place) 0)
+    (ap (λ (place : ℕ). get_or c.self.inside.pool (get_or c.self.inside.regions.bases c.args.queue 0 + place) 0)
     (sym c.wrapped-at.ensures.wrapped)
     ∙ c.if-self-base.false
     ∙ item_is c.snapshot.invariant c.args.queue c.loop-index.index
-    (get_or c.self.inside.lengths c.args.queue 0) c.wrapped-snapshot_at.result c.requires (omega arith)
+    (get_or c.self.inside.regions.lengths c.args.queue 0) c.wrapped-snapshot_at.result c.requires (omega arith)
     (omega arith) c.wrapped-snapshot_at.ensures.wrapped c.index.result.now c.index.ensures)
 
 pub returns : goal.returns

@@ -9,10 +9,10 @@ returns-clause-same c =
     let arrays : Fields =
     record {
       pool = c.snapshot.inside.pool.items;
-      bases = c.snapshot.inside.bases;
-      lengths = c.snapshot.inside.lengths;
-      heads = c.snapshot.inside.heads;
-      counts = c.snapshot.inside.counts;
+      bases = c.snapshot.inside.regions.bases;
+      lengths = c.snapshot.inside.regions.lengths;
+      heads = c.snapshot.inside.regions.heads;
+      counts = c.snapshot.inside.regions.counts;
     } in
     ap (λ (front : List ℕ). objects_of (with_pool (front ++ drop c.len-used.result c.self.inside.pool) arrays))
     (c.copy_from_slice.ensures.after ∙ c.as_slice.ensures.value)
