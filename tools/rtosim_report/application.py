@@ -29,7 +29,7 @@ OPENS, CLOSES = "enter_critical", "exit_critical"
 # The sections of the objects, which are numbered in this order.
 OBJECTS = ("queue", "binary", "counting", "mutex")
 ORDINALS = {2: "2nd", 3: "3rd"}
-# Behind an op, on its line: the comment that names it.
+# After an op, on its line: the comment that names it.
 NAMING_COMMENT = re.compile(r"[ \t,\]]*#[ \t]*name:([^\r\n]*)")
 LONGEST_NAME = 60
 
@@ -141,7 +141,7 @@ class Application(NamedTuple):
 
 
 class Named(str):
-    """A text of the document, and the name that the comment behind it gives it."""
+    """A text of the document, and the name that the comment after it gives it."""
 
     given_name = ""
 

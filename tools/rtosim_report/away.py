@@ -1,7 +1,7 @@
-"""What a task does between its turns on the processor: waits, sleeps, is suspended or is Ready, as far as it is known; and where it ends.
+"""What a task does between its turns on the processor, as far as it is known: it waits, sleeps, is suspended or is Ready; or it has ended.
 
-That a task waits in a call is concluded: it left the processor after the silent steps of such a call, and completes one in its first
-step when it is back. With the application its op is known instead."""
+A task is taken to wait in a call if it left the processor after the silent steps of such a call, and completes one in its first step when
+it is back. With the application its op is known instead."""
 from __future__ import annotations
 
 import bisect
@@ -35,7 +35,7 @@ class AwayTimes:
         self.last_op = {it.end: it for it in self.ops.stretches} if self.ops else {}
 
     def bars(self) -> List[Bar]:
-        """From the last turn to the first: a turn without a line may be a try in vain of the call that a later one ends."""
+        """From the last turn to the first: a turn without a line may be a failed attempt of the call that a later turn ends."""
         found: List[Bar] = []
         word = None
         for at in range(len(self.turns) - 1, -1, -1):
@@ -92,7 +92,7 @@ class AwayTimes:
         return Doing.WAITS, word if back else None
 
     def after_op(self, stretch: Stretch, turn: Bar, back: Optional[Bar]) -> Tuple[Optional[Doing], Optional[str]]:
-        """The same, where the op is known that the task is in."""
+        """The same, if the op that the task is in is known."""
         op = self.script.op(stretch.op)
         if stretch.is_complete and back is None and self.ops.walker.has_ended and not self.may_fail(op, turn):
             self.endings.append((self.lane, turn.end))
@@ -117,8 +117,8 @@ class AwayTimes:
         return head.verdict.task is not None and turn.end == head.steps and (op.word == "expect" or head.verdict.task == self.lane.name)
 
     def ready_or_ended(self, turn: Bar, back: Optional[Bar]) -> Optional[Doing]:
-        """After a turn that ends with none of what lets a task wait: it is Ready if it comes back. If it doesn't, it has ended where the run
-        passes, idle runs then, and nobody may have suspended it. Elsewhere it isn't known, since it may serve for ever."""
+        """After a turn that ends with nothing that lets a task wait: it is Ready if it comes back. If it doesn't, it has ended, provided that the run
+        passes, idle runs then, and nobody may have suspended it. Otherwise this isn't known, since it may serve forever."""
         if back is None and self.builder.passes_with_idle and not self.may_be_suspended_after(turn):
             self.endings.append((self.lane, turn.end))
         return Doing.READY if back is not None else None
@@ -127,8 +127,8 @@ class AwayTimes:
         return any(it.is_suspend and it.boundary >= turn.end and it.may_be_of(self.lane.name) for it in self.changes)
 
     def after_call(self, call: Event, turn: Bar, back: Optional[Bar]) -> Optional[Doing]:
-        """A call that is reported in the turn's last step: the task may sleep or be suspended by it. Where it doesn't come back from a `delay`
-        it isn't known whether it has ended, with that as its last op, or sleeps."""
+        """A call that is reported in the turn's last step: the task may sleep or be suspended by it. If it doesn't come back from a `delay`, it may
+        have ended, with that as its last op, or still sleep: that isn't known."""
         if call.word == "suspend" and call.answer == 1:
             return Doing.SUSPENDED
         end = back.start if back else self.builder.head.steps
@@ -139,7 +139,7 @@ class AwayTimes:
         return Doing.SLEEPS if back is not None and has_time_passed else None
 
     def awaited(self, back: Bar, later_word: Optional[str]) -> Optional[str]:
-        """The call that ends in the first step of the turn, or in a later one if this one is a try in vain."""
+        """The call that ends in the first step of the turn, or in a later one if this one is a failed attempt."""
         notes = self.notes_in(back)
         if not notes:
             return later_word

@@ -1,7 +1,7 @@
 """The base run beside which rows are seen: given by its own report, by a row that isn't reached, or presumed.
 
-A campaign's report need not have the base run. Then each row has it up to its step, and what the rows agree on except for
-their handlers' lines is taken for the rest. Where they agree on nothing, it is known up to the last of these steps."""
+A campaign's report need not have the base run. Then each row has it up to its step, and what the rows agree on, except for their handlers'
+lines, is taken for the rest. If they agree on nothing, it is known up to the last of these steps."""
 from __future__ import annotations
 
 import bisect
@@ -26,7 +26,7 @@ HEAD_BYTES = 200
 
 
 class Origin(enum.Enum):
-    """From where the base run is known."""
+    """How the base run is known."""
 
     GIVEN = "given"
     TOLD = "in the report"
@@ -36,7 +36,7 @@ class Origin(enum.Enum):
 
 @dataclass
 class BaseRun:
-    """The lines of the base run, with the places of their steps. It has no head where it is known in part alone."""
+    """The lines of the base run, with the places of their steps. It has no head if only a part of it is known."""
 
     head: Any
     lines: List[Line]
@@ -181,7 +181,7 @@ class Candidate:
 
 
 def without_own(run: Run, start: int) -> bytes:
-    """The row's text except for the lines of its handlers, of which the first comes at this byte."""
+    """The row's text except for the lines of its handlers, the first of which comes at this byte."""
     point, text = run.head.point, run.text
     own = own_bytes(text[start : start + 4096], point[0]) if point.is_single else 0
     if own:
@@ -191,7 +191,7 @@ def without_own(run: Run, start: int) -> bytes:
 
 
 def beyond_known(run: Run, known: BaseRun) -> Optional[bytes]:
-    """What the row has beyond what is known, except for its handlers' lines; None where it doesn't have what is known."""
+    """What the row has beyond what is known, except for its handlers' lines; None if it doesn't have what is known."""
     start = known.place(run.head.point.first_step)[1]
     text = without_own(run, start) if run.text[:start] == known.text[:start] else b""
     if not text.startswith(known.text):
@@ -211,8 +211,8 @@ def injects_tick(run: Run) -> bool:
 
 
 def presumed_base(source: Source, known: BaseRun, is_covered: bool) -> Optional[BaseRun]:
-    """The run that most rows have except for their handlers' lines, if it begins with what is known. Where there is a point for
-    each step, the base run ends after the last of them; otherwise one row alone is not enough."""
+    """The run that most rows have except for their handlers' lines, if it begins with what is known. If there is a point for each step, the
+    base run ends after the last of them. Otherwise one row alone is not enough."""
     last_step = known.known_until
     length = b" in %d steps, " % (last_step + 1)
     candidates: Dict[bytes, Candidate] = {}

@@ -1,7 +1,7 @@
-"""Why a row ends as it does, in words that last: without points, steps and numbers of rows, and with the application's texts in the
-place of the numbers of ops.
+"""Why a row ends as it does, in words that last: without points, steps and numbers of rows, and with the application's texts in place of
+the numbers of ops.
 
-Where a run is stuck, a report alone shows the last call of each task. With the application it is known what each task does next."""
+Of a stuck run, a report alone shows the last call of each task. With the application it is known what each task does next."""
 from __future__ import annotations
 
 import functools
@@ -78,7 +78,7 @@ class Causes:
         return f"{name}: {op.text} = {rest.rpartition(' ')[2]}" if op else f"{name} {index} {rest}"
 
     def key_of(self, run: Run, failed: Tuple[bytes, ...]) -> Tuple[Union[Tuple[Tuple[bytes, bytes], ...], str], Tuple[bytes, ...]]:
-        """What rows of one cause have in common: how the run ends, where, and which calls of handlers failed."""
+        """What rows of one cause have in common: how and at which op the run ends, and which calls of handlers failed."""
         verdict = run.head.verdict
         if verdict.kind != "stuck":
             return verdict.text, failed

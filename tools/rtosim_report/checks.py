@@ -1,5 +1,5 @@
-"""Why a check failed: the last answer, of which an `expect` wasn't true; or that an op needs a number and there is none, or that it divides by
-a variable that is 0. A report has the answers, and the values of variables by their stores."""
+"""Why a check failed: the last answer, for which an `expect` wasn't true; or that an op needs a number and there is none, or that it divides
+by a variable that is 0. A report has the answers, and the values of variables by their stores."""
 from __future__ import annotations
 
 from typing import Any, Dict, List, NamedTuple, Optional, Tuple
@@ -22,7 +22,7 @@ class Found(NamedTuple):
 
 
 def words_of_check(application: Application, run: Run) -> Optional[str]:
-    """In words why the run's check failed; None where that isn't found."""
+    """In words why the run's check failed; None if that isn't found."""
     verdict: Any = run.head.verdict
     index, op = verdict.numbers[0], application.op(verdict.task, verdict.numbers[0])
     if op is None:
@@ -37,7 +37,7 @@ def words_of_check(application: Application, run: Run) -> Optional[str]:
 
 
 def why_it_fails(op: Op, found: Found) -> Optional[str]:
-    """What is wrong for this op with what it found; None where nothing is."""
+    """What is wrong for this op with what it found; None if nothing is."""
     answer, name = "none" if found.answer is None else found.answer, op.words[-1]
     known = found.values.get(name, ())
     if op.word == CHECKS:
@@ -91,8 +91,8 @@ def values_within(history: History, first: int, last: int) -> Values:
 
 
 def first_failure(application: Application, name: str, answers: Dict[Any, Any], values: Values) -> Optional[Tuple[int, Found]]:
-    """The index of the first op that is a failed check in a call of the handler, whose ops have these answers, and what it found; None
-    where there is none, or the ops aren't those of the answers."""
+    """Looks at a call of the handler whose ops have these answers. Returns the index of the first op that is a failed check, and what that op
+    found; None if no check fails, or if the ops aren't those of the answers."""
     walker = Walker(application.handlers[name])
     walker.values = values
     while not walker.has_ended:

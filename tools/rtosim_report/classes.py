@@ -1,7 +1,7 @@
 """Groups rows: those that fail by their cause, those that pass by their outcome.
 
-Two rows have the same outcome when their verdicts, and what they report from where the first handler comes, are the same except for the
-numbers of steps and ticks. The rows that are the base run except for the handlers' own lines, in which no call fails, are a class of their own."""
+Two rows have the same outcome if their verdicts are the same, and what they report from their first handler on, except for the numbers of
+steps and ticks. The rows that are the base run except for the handlers' own lines, and in which no call fails, are a class of their own."""
 from __future__ import annotations
 
 import enum
@@ -23,7 +23,7 @@ from .report import Head, Line, Point, Verdict
 # An outcome that takes more bytes is known by a digest.
 LONGEST_KEY = 200
 AS_BASE, BY_CAUSE, BY_HEAD = "as the base run", "by cause", "by head"
-# What differs is shown with a number of a step where the base run isn't known to its end.
+# What differs is shown with the number of a step if the base run isn't known to its end.
 STEP_OF_BASE = re.compile(r"before step [0-9]+")
 
 
@@ -124,7 +124,7 @@ class Classifier:
         return found
 
     def add_head(self, run: Run) -> OutcomeClass:
-        """The class of a row of which the head alone is known: those that pass are one, those that fail are of one end and of the same
+        """The class of a row whose head alone is known. All that pass are one class; those that fail are one if they have the same end and the same
         handlers."""
         head = run.head
         key: Tuple[Any, ...]
@@ -141,8 +141,8 @@ class Classifier:
         return found
 
     def quick_class(self, run: Run) -> Optional[OutcomeClass]:
-        """The class of a row that the program has made, if it is one by cause that is there already: lines are looked at for calls that
-        failed alone. None where it isn't found so."""
+        """The class of a row that the program has made, if it is a class by cause that is there already. Only the calls that failed are looked for
+        in its lines. None if it isn't found this way."""
         head, base = run.head, self.base
         if base.head is None or not head.is_reached or not self.is_by_cause(head.verdict) or head.verdict == base.head.verdict:
             return None
@@ -222,7 +222,7 @@ def lasting_words(verdict: Verdict, words: str) -> str:
 
 
 def name_apart(classes: List[OutcomeClass]) -> None:
-    """Of classes with one name, the second and those behind it get a number."""
+    """If several classes have one name, the second and later ones get a number."""
     seen: Dict[str, int] = {}
     for it in classes:
         seen[it.name] = nth = seen.get(it.name, 0) + 1

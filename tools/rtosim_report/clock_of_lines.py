@@ -16,7 +16,7 @@ WRAP = 1 << 32
 
 
 class TickReader:
-    """Puts the clock of a run together. `boundary` answers when the event of an index is seen."""
+    """Puts the clock of a run together. `boundary` returns when the event of an index is seen."""
 
     def __init__(self, head: Head, events: List[Event], injected: AbstractSet[int], boundary: Callable[..., Any],
                  application: Optional[Application], ticks: Sequence[int] = ()) -> None:
@@ -24,7 +24,7 @@ class TickReader:
         self.application = application if application is not None and application.is_tickless else None
         self.is_tickless = self.application is not None or head.is_tickless
         self.boundaries, self.ticks = [0], [0]
-        # The boundaries of the injected ticks, those of the ones that no line has shown yet, and where the others have come.
+        # The boundaries of all injected ticks, of those that no line has shown yet, and at which the others have come.
         self.injected_ticks, self.waiting = ticks, list(ticks)
         self.jumps: List[int] = []
         self.start = self.tick_at_reset()
@@ -50,7 +50,7 @@ class TickReader:
         return Clock(self.boundaries, self.ticks, self.start, self.jumps)
 
     def know(self, boundary: int, elapsed: int, is_latest: bool = False) -> None:
-        """The ticks of a boundary behind those that are known, or what a later line shows of the last of these."""
+        """The ticks of a boundary after the known ones, or what a later line shows of the last of these."""
         if boundary > self.boundaries[-1]:
             self.boundaries.append(boundary)
             self.ticks.append(elapsed)
@@ -68,8 +68,8 @@ class TickReader:
                 self.know(at, tick)
 
     def lay_injected(self, end: int, elapsed: int, is_before: bool = False, are_released: bool = False) -> None:
-        """The injected ticks that have come by this boundary: each is a jump where it was injected, or where the last line is that shows
-        that it hasn't come. Those that a step releases are ticks of that step. `is_before` says that the line at the boundary comes
+        """The injected ticks that have come by this boundary. Each is a jump at the boundary at which it was injected, or at that of the last line
+        which shows that it hasn't come. Those that a step releases are ticks of that step. `is_before` says that the line at the boundary comes
         before the next step, as the ticks do that are injected there."""
         last_one = end if is_before else end - 1
         while self.waiting and self.waiting[0] <= last_one and self.ticks[-1] < elapsed:
@@ -82,8 +82,8 @@ class TickReader:
                 self.ticks += [before, before + 1]
 
     def tick_at_reset(self) -> int:
-        """The printed tick at reset: counted back from a line of the last step, otherwise taken for 0 where it can be. Of a tickless
-        application it is known; where it isn't given, no step before the first line passes more than a tick, since none is idle's."""
+        """The printed tick at reset: counted back from a line of the last step, otherwise 0 if that is possible. In a tickless application it is
+        known; if it isn't given, no step before the first line passes more than a tick, since none is idle's."""
         if self.application is not None:
             return self.application.start
         if not self.events:

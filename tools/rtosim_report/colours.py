@@ -1,11 +1,11 @@
-"""Colours of classes: warm and full where a class fails, cold and pale where it passes, grey where it is as the base run; no two alike."""
+"""Colours of classes: warm and full for those that fail, cold and pale for those that pass, grey for the base run's; no two alike."""
 import colorsys
 from typing import Any, Dict, Iterable, Iterator, Sequence, Tuple
 
 FAILING = ["#b3261e", "#e8590c", "#c2255c", "#e6a700", "#7a3e12", "#f06595"]
 PASSING = ["#b9d1f2", "#b0e0d9", "#c3c8ef", "#b5dcbb", "#b4e0f1", "#c2d4d9"]
 AS_BASE = "#dfe3e8"
-# Where hues begin, and how far they go, in parts of a turn.
+# At which hue each kind begins, and how far it goes, in parts of a turn.
 WARM, COLD = (-0.09, 0.22), (0.25, 0.45)
 GOLDEN = 0.618034
 DARK, PALE = (0.40, 0.55, 0.30, 0.65, 0.47), (0.84, 0.78, 0.88, 0.81, 0.75)

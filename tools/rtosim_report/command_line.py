@@ -19,7 +19,7 @@ from .report import TICK
 # What subcommands are added to.
 Commands = Any
 DESCRIPTION = "Reads a report of `rtosim run` or `rtosim campaign`: which points matter, pictures, other tools' formats."
-# So the name of an application ends, where a report may be named too.
+# The name of an application ends with this, if a report may be named too.
 APPLICATION = ".toml"
 
 
@@ -42,8 +42,8 @@ def do_classes(job: Job, output: Output) -> int:
 
 
 def do_compare(words: argparse.Namespace, output: Output) -> bool:
-    """Reads both reports. Ops are named by their texts where both are of applications, otherwise by their numbers; and rows are classed by
-    their heads where either has no more of them."""
+    """Reads both reports. Ops are named by their texts if both are of applications, otherwise by their numbers. Rows are classed by their heads
+    if either report has no more of them."""
     from .comparing import write_changes
     from .job import say
 
@@ -59,7 +59,7 @@ def do_compare(words: argparse.Namespace, output: Output) -> bool:
 
 
 def named(name: str) -> Dict[str, Optional[str]]:
-    """The words of a report, or of an application, of which the program makes one."""
+    """The words of a report, or of an application whose report the program makes."""
     is_application = name.endswith(APPLICATION)
     return {"application": name if is_application else None, "report": None if is_application else name}
 
@@ -347,7 +347,7 @@ OF_SEVERAL_REPORTS = (do_compare, do_join, do_pairs)
 
 
 def output_of(found: argparse.Namespace) -> ContextManager[Output]:
-    """Where the result goes. The objects of rows that the program makes may be of any size, and are written as they come."""
+    """Opens what the result is written to. The rows that the program makes may be of any size, so their objects are written as they come."""
     if found.output:
         return output_file(found.output)
     is_direct = found.do is do_join or found.do is do_json and makes_report(found)

@@ -1,8 +1,8 @@
-"""The daemon, step by step. No line shows its receive; but what it does follows from the steps in which it runs, and from the
-commands of handlers that found room, each of which has a line.
+"""The daemon, step by step. No line shows its receive. But what it does follows from the steps in which it runs, and from the commands of
+handlers that found room, each of which has a line.
 
-It is known by its name with the application. Otherwise it is the one whose calls are those that a daemon makes in these steps and that
-has begun to wait in them, if there is just one such task."""
+With the application it is known by its name. Otherwise it is the task whose calls are those that a daemon makes in these steps, and that
+has begun to wait in them. If several tasks are like that, none is taken."""
 from __future__ import annotations
 
 import enum
@@ -21,7 +21,7 @@ WORD, OBJECT = "receive", "commands"
 
 
 class Command(NamedTuple):
-    """A handler's `set` or `clear` that found room: when it is in the queue, its word, and its event group where that is known."""
+    """A handler's `set` or `clear` that found room: when it is in the queue, its word, and its event group if that is known."""
 
     boundary: int
     word: str
@@ -67,7 +67,7 @@ class DaemonTimes:
         self.is_known = all(self.follow(it) for it in turns) and self.done == calls
 
     def follow(self, turn: Bar) -> bool:
-        """Goes through the turn; False where no daemon has it."""
+        """Goes through the turn; False if no daemon has it."""
         for step in range(turn.start, turn.end):
             if self.waits and self.phase is Phase.TRY and not self.has_command(step):
                 return False
@@ -85,7 +85,7 @@ class DaemonTimes:
         return max(boundary, self.commands[self.taken].boundary) if self.taken < len(self.commands) else self.steps
 
     def after(self, step: int) -> Phase:
-        """Does the step, and answers what is next."""
+        """Does the step, and returns what is next."""
         phase = self.phase
         if phase is Phase.TRY:
             return self.tried(step)
@@ -128,7 +128,7 @@ def times_of(builder: Builder, name: str) -> DaemonTimes:
 
 
 def who_may_be_it(builder: Builder) -> List[str]:
-    """Those of whom nothing is reported that isn't reported of a daemon; nobody where no command has found room."""
+    """The tasks whose lines could all be a daemon's; none if no command has found room."""
     like_it: Set[Optional[str]] = set()
     others = {builder.head.verdict.task}
     for it in builder.events if builder.commands else ():
@@ -139,8 +139,7 @@ def who_may_be_it(builder: Builder) -> List[str]:
 
 
 def find_daemon(builder: Builder) -> Tuple[Optional[DaemonTimes], bool]:
-    """The daemon's times, or None where it isn't known; and whether somebody must be or may be the daemon whose turns aren't a
-    daemon's."""
+    """The daemon's times, or None if it isn't known; and whether a task whose turns aren't a daemon's must be or may be the daemon."""
     if builder.application is not None:
         daemon = builder.application.daemon
         names = [daemon.name] if daemon is not None and daemon.name in builder.lanes else []

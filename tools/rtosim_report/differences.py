@@ -13,7 +13,7 @@ from .report import IDLE, Line
 
 @dataclass(frozen=True)
 class Difference:
-    """What differs from the base run, in words; nothing where all is the same except for the handler's own lines."""
+    """What differs from the base run, in words; empty if all is the same except for the handler's own lines."""
 
     words: str
 
@@ -30,7 +30,7 @@ def told(what: bytes) -> str:
 
 
 def difference(run: Run, tail: List[Line], position: int, base: BaseRun, keeps_ticks: bool = False) -> Difference:
-    """What is different in this row, of which the tail is shown from the injection on."""
+    """What is different in this row, whose lines from the injection on are the tail."""
     if base is None:
         return Difference("not known, without the base run")
     base_tail = base.lines[position:]

@@ -88,8 +88,8 @@ def nice_interval(least: float) -> int:
 
 
 class Labels:
-    """Rows for labels of one lane: a label goes to the first row where it overlaps none. One for which there is no room is counted
-    behind the last label of the row that ends first."""
+    """Rows for labels of one lane: a label goes to the first row in which it overlaps none. If there is no room for it, it is counted after the
+    last label of the row that ends first."""
 
     GAP = 6
 
@@ -107,7 +107,7 @@ class Labels:
         self.fold(text)
 
     def add_kept(self, left: float, text: str, classes: str = "") -> None:
-        """A text that is shown in any case. Where there is no room, those that are in its place are counted behind it."""
+        """A text that is always shown. If there is no room, the texts in its place are counted after it."""
         left = min(left, self.limit - width_of(text + " +99"))
         row = min(self.rows, key=lambda row: sum(left < it.end + self.GAP for it in row))
         kept = Label(left, text, classes)

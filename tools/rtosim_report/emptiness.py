@@ -1,5 +1,5 @@
-"""What a campaign leaves untested: one without points, or of points none of which is reached, passes whatever the application does. So does a
-report from which the rows that fail are left out."""
+"""What a campaign leaves untested. One without points, or none of whose points is reached, passes whatever the application does. The same
+is true of a report from which the rows that fail are left out."""
 from typing import NamedTuple, Optional
 
 from .faults import counted
@@ -34,8 +34,7 @@ def failing_left_out(total: Tally, written: Tally) -> int:
 
 
 def emptiness_of(total: Tally, is_of_a_run: bool, left_out: int = 0) -> Optional[Emptiness]:
-    """Why so many rows, of which so many that fail are left out, test nothing; None where they test something, or the report is that of a
-    run."""
+    """Why so many rows, with so many failing ones left out, test nothing; None if they test something, or if the report is that of a run."""
     if left_out:
         return Emptiness(LEFT_OUT, f"{counted(left_out, 'row')}, by --only", False)
     if not total.rows:

@@ -1,4 +1,4 @@
-"""What `rtosim run .. --state` writes behind a run: where each task is after the last step, who holds which mutex, and the values of
+"""What `rtosim run .. --state` writes after a run: where each task is after the last step, who holds which mutex, and the values of
 variables."""
 from __future__ import annotations
 
@@ -21,7 +21,7 @@ A_STATE_LINE = "`state NAME WORD`, `held OBJECT NAME` or `variable X = V`, as `r
 
 
 class Status(enum.Enum):
-    """Where a task is."""
+    """The place in its script at which a task is."""
 
     RUNS = "runs"
     READY = "ready"
@@ -33,7 +33,7 @@ class Status(enum.Enum):
 
 
 class TaskState(NamedTuple):
-    """A task: the op that it is in, or that it does next, and the printed tick until which it waits or sleeps at most; None is for ever."""
+    """A task: the op that it is in, or that it does next, and the latest printed tick at which its wait or sleep ends; None if it has no limit."""
 
     name: str
     status: Status
@@ -51,7 +51,7 @@ class EndState(NamedTuple):
 
 
 def first_of(body: bytes) -> Optional[int]:
-    """Where the first line of a state begins, or None."""
+    """The place at which the first line of a state begins, or None."""
     if body.startswith(FIRST_WORDS):
         return 0
     found = [it + 1 for it in (body.find(b"\n" + word) for word in FIRST_WORDS) if it >= 0]
@@ -59,7 +59,7 @@ def first_of(body: bytes) -> Optional[int]:
 
 
 def parted(body: bytes, line_number: int) -> Tuple[bytes, bytes]:
-    """The lines of a run, of which the first has this number, without the lines of its state; and these, which may be none."""
+    """Splits the lines of a run, the first of which has this number, into those of the run and those of its state, of which there may be none."""
     start = first_of(body)
     if start is None:
         return body, b""
@@ -75,7 +75,7 @@ def parted(body: bytes, line_number: int) -> Tuple[bytes, bytes]:
 
 
 def state_of(lines: bytes) -> Optional[EndState]:
-    """The state that these lines say; None where there are none."""
+    """The state that these lines describe; None if there are none."""
     if not lines:
         return None
     found = EndState([], {}, {})

@@ -1,5 +1,6 @@
-"""What a run that fails says at its end, in words with the names and the texts of the application: of a check what was expected and what
-the answer is, or what an op lacks; of a misuse what is wrong with it; of a run that is stuck, or comes to a limit, where each task is, who holds what it waits for, and who wait for each other."""
+"""What is said of a run that fails, at its end, in words with the names and the texts of the application. For a check it is what was
+expected and what the answer is, or what an op lacks; for a misuse what is wrong with it. For a run that is stuck, or reaches a limit, it is
+where each task is, who holds what it waits for, and which tasks wait for each other."""
 from __future__ import annotations
 
 from typing import Any, Callable, List, Optional, Set, Tuple
@@ -25,8 +26,8 @@ PLAIN = {Status.RUNS: "runs", Status.READY: "is Ready", Status.AWAKE: "is Awake"
 
 
 class Endings:
-    """Words for the ends of runs of an application that is known, and the lines of C where these are. `ask` has the program write the
-    state at the end of a row, or returns None."""
+    """Words for the ends of runs of a known application, and the lines of C if there are any. `ask` has the program write the state at the end
+    of a row, or returns None."""
 
     def __init__(self, application: Any, ask: Callable[..., Any] = lambda head: None,
                  source_map: Any = None) -> None:
@@ -34,8 +35,7 @@ class Endings:
         self.moments = Moments(application, source_map) if application is not None and source_map is not None else None
 
     def lines_of(self, run: Run, base: Any = None, failed: Tuple[bytes, ...] = ()) -> List[str]:
-        """The lines for this run, in which these calls of handlers failed; none where it passes, or where no more is known than its
-        head says."""
+        """The lines for this run, in which these calls of handlers failed; none if it passes, or if no more is known than its head says."""
         if run.head.verdict.passes:
             return []
         moments = self.moments.lines_of(run, base) if self.moments else []
@@ -109,7 +109,7 @@ class Endings:
         return f'op {it.op} "{op.text}"' if op is not None else f"op {it.op}"
 
     def held_text(self, it: TaskState, state: EndState) -> str:
-        """By whom the mutex is held for which the task waits."""
+        """The holder of the mutex for which the task waits, in words."""
         holder = self.holder_before(it, state)
         if holder is None:
             return ""
@@ -119,14 +119,14 @@ class Endings:
         return f" (held by {holder}{', which has ended' if has_ended else ''})"
 
     def holder_before(self, it: TaskState, state: EndState) -> Optional[str]:
-        """Who holds the mutex for which the task waits; None where it waits for none."""
+        """Who holds the mutex for which the task waits; None if it waits for none."""
         op = self.application.op(it.name, it.op) if it.status is Status.WAITS else None
         if op is None or op.word != LOCKS or op.object not in self.application.objects:
             return None
         return state.holders.get(self.application.objects.index(op.object))
 
     def circles(self, state: EndState) -> List[List[str]]:
-        """The tasks that wait for ever for each other, each circle once, from its first task on."""
+        """Each circle of tasks that wait forever for each other, from its first task on."""
         forever = [it for it in state.tasks if it.until is None]
         holder = {it.name: self.holder_before(it, state) for it in forever}
         found: List[List[str]] = []

@@ -38,7 +38,7 @@ WHAT = (
 EVENT_LINES = re.compile(rb"^(" + NUMBER + rb") (" + NUMBER + rb") (" + WHAT + rb")\n", re.MULTILINE)
 EVENT_LINE = re.compile(rb"(" + NUMBER + rb") (" + NUMBER + rb") (" + WHAT + rb")")
 
-# In words, for those who have to mend a text.
+# In words, for people who must mend a text.
 AN_EVENT = "`S T call TASK I WORD = A`, `S T isr HANDLER I WORD = A`, `S T mark NAME N` or `S T run TASK`"
 A_FIRST_LINE = "`base: VERDICT in N steps, E ticks`, `row 0 at STEP HANDLER: ..` or `total 0: ..`"
 A_TOTAL = "`total P: pass A, check B, misuse C, ticks D, steps F, stuck G, not reached H`"

@@ -1,8 +1,8 @@
 """Which lines of a row are those of the injected handlers.
 
-The lines of a step are in this order: those of the handlers that come before it, one handler after another, each with
-a change of the processor behind them if they bring one about; then those of the step. A handler that is injected while a critical section
-is open is pending, and comes before the first step after the section.
+The lines of a step are in this order: first those of the handlers that come before it, one handler after another, each followed by a change
+of the processor if it causes one; then those of the step. A handler that is injected while a critical section is open is pending, and comes
+before the first step after the section.
 
 An injected tick has no lines of its own: those that it brings are its base interrupts', and a change of the processor."""
 from __future__ import annotations
@@ -65,8 +65,8 @@ def groups_of(point: Union[Point, Sequence[Injection]]) -> List[Tuple[int, List[
 
 
 def arrival_of(lines: List[Line], injection: Injection, names: Set[bytes]) -> int:
-    """Before which step an injected handler comes: its own; or a later one, where these lines are as those of a critical section up to the
-    lines of handlers of these names."""
+    """Before which step an injected handler comes: its own, or a later one, if the lines up to those of handlers of these names are as in a
+    critical section."""
     own, inside, left_at = own_words(injection.handler), None, None
     first = position_of(lines, injection.step)
     if injection.handler == TICK and first < len(lines) and not any(it[2].startswith(own) for it in lines[first:]):
@@ -123,13 +123,13 @@ def arrived(lines: List[Line], point: Point) -> List[Injection]:
 
 
 def from_arrival(tail: List[Line], point: Point) -> List[Line]:
-    """The lines of a row from where the first of its handlers comes; the tail begins at the first injection."""
+    """The lines of a row from the first of its handlers on; the tail begins at the first injection."""
     return tail[position_of(tail, min(arrivals_of(tail, point).values())) :]
 
 
 def order_of(lines: List[Line], injection: Injection, come: Injection) -> int:
-    """Of a pending handler where its lines are, since they come in the order of the file, and the tick after them; the others come in
-    theirs."""
+    """A key to sort by: for a pending handler the line at which its lines begin, otherwise 0. Pending handlers come in the order of the
+    file, and the tick after them."""
     if injection.step == come.step:
         return 0
     if injection.handler == TICK:
@@ -139,7 +139,7 @@ def order_of(lines: List[Line], injection: Injection, come: Injection) -> int:
 
 
 def is_change_between(lines: List[Line], at: int, injection: Injection) -> bool:
-    """Whether the processor changes in this line between a handler and the next one, of which a line follows."""
+    """Whether the processor changes in this line, between a handler and the next one that has a line."""
     if at + 1 >= len(lines) or not lines[at][2].startswith(b"run "):
         return False
     step = str(injection.step).encode()
@@ -154,8 +154,8 @@ def is_change_before_tick(lines: List[Line], at: int) -> bool:
 
 
 def end_of_base_interrupts(lines: List[Line], start: int, step: int, tasks: AbstractSet[bytes]) -> int:
-    """Where the lines of the base interrupts of a tick end that is injected before this step, and from which line on they may be. A mark is
-    a handler's unless a task has the name: one of these, or one that runs or calls in a line."""
+    """At which line those of the base interrupts of a tick end, if it is injected before this step, and from which line on they may be. A mark
+    is a handler's unless a task has the name: one of these, or one that runs or calls in a line."""
     runners = {what.split(b" ", 2)[1] for _, _, what in lines if what.startswith((b"run ", b"call "))}
     when, end = lines[start : start + 1], start
     while end < len(lines) and int(lines[end][0]) == step and lines[end][1] == when[0][1]:
@@ -167,9 +167,9 @@ def end_of_base_interrupts(lines: List[Line], start: int, step: int, tasks: Abst
 
 
 def stretches_of_step(lines: List[Line], start: int, injections: List[Injection], tasks: Optional[AbstractSet[bytes]] = None) -> List[Tuple[int, int]]:
-    """Where the lines of handlers that come before one step are, a stretch for each of them: its first line, and how many
-    there are. Two of one name that follow each other are one stretch, and an empty one. That of a tick is empty. It comes after the lines of
-    its base interrupts if another injection follows, or if the names of tasks are given."""
+    """The lines of handlers that come before one step, as a stretch for each handler: its first line, and how many there are. Two handlers of
+    one name that follow each other are one stretch, and an empty one. That of a tick is empty. It comes after the lines of its base interrupts
+    if another injection follows, or if the names of tasks are given."""
     found: List[Tuple[int, int]] = []
     at = start
     for nth, injection in enumerate(injections, 1):
@@ -185,8 +185,8 @@ def stretches_of_step(lines: List[Line], start: int, injections: List[Injection]
 
 
 def own_stretches(tail: List[Line], point: Point, base: Optional[BaseRun] = None) -> List[Tuple[int, int]]:
-    """The stretches of all injections of a row, of which the tail begins at the first. What the base run has at the same step and
-    tick, since its own interrupt has the same handler while the ticks are held, is taken off the last of a step."""
+    """The stretches of all injections of a row, whose tail begins at the first one. While the ticks are held, the base run's own interrupt may
+    have the same handler at the same step and tick: its lines are taken off the last stretch of the step."""
     found = []
     for step, injections in groups_of(arrived(tail, point)):
         stretches = stretches_of_step(tail, position_of(tail, step), injections)
@@ -198,7 +198,7 @@ def own_stretches(tail: List[Line], point: Point, base: Optional[BaseRun] = None
 
 
 def known_in_base(base: BaseRun, injection: Injection, first: List[Line]) -> int:
-    """How many lines of this handler the base run has at the step, where they are of the same tick as the first one here."""
+    """How many lines of this handler the base run has at the step, with the same tick as the first one here."""
     at = base.position(injection.step)
     is_same_tick = first and base.lines[at : at + 1] and base.lines[at][1] == first[0][1]
     return leading_own(base.lines, injection, at) if is_same_tick else 0

@@ -96,7 +96,7 @@ class Job:
         return found
 
     def read_source_map(self) -> Optional[SourceMap]:
-        """The lines of C of the ops, which are those of the application where that is known."""
+        """The lines of C of the ops. If the application is known, they must be those of its ops."""
         if self.words.source is None:
             return None
         found = read_map(self.words.source)
@@ -136,7 +136,7 @@ class Job:
     # -- the report
 
     def runs(self) -> Iterator[Run]:
-        """The runs of a report that is named, all of which are there when the last one was taken."""
+        """The runs of a report that is named. When the last one is taken, all of the report has been read."""
         reader = self.source.reader()
         yield from self.read(reader)
         if reader.is_cut_off:
@@ -175,7 +175,7 @@ class Job:
         yield from self.made.whole(None, survey)
 
     def ask_for_state(self, head: Head) -> Optional[EndState]:
-        """The state at the end of a row, as the program writes it. Where it writes none once, it isn't asked again."""
+        """The state at the end of a row, as the program writes it. If it writes none once, it isn't asked again."""
         words = None if self.asked >= MOST_ASKED else words_of_point(head.point, self.takes_points)
         if words is None:
             return None

@@ -98,7 +98,7 @@ class View(NamedTuple):
         return View(self.written | other.written, self.left_out | other.left_out, *both)
 
     def contradiction(self) -> Optional[str]:
-        """Why no words of a campaign leave this; None where some do."""
+        """Why no words of a campaign leave this; None if some do."""
         if self.has_lines and self.has_heads_alone:
             return "some rows are heads alone (--heads) and others whole"
         both = sorted(self.written & self.left_out)

@@ -10,7 +10,7 @@ from .source_map import SourceMap
 
 
 def write_head(output: Text, run: Run, source_map: Optional[SourceMap] = None) -> None:
-    """The object of a run of which the head alone is known: it has no events."""
+    """The object of a run whose head alone is known: it has no events."""
     output.write_bytes(head_fields(run.head, source_map).encode() + b"}\n")
 
 
@@ -60,7 +60,7 @@ def fields_of(what: bytes, source_map: Optional[SourceMap] = None) -> bytes:
 
 
 def add_source(fields: Dict[str, Any], source_map: Optional[SourceMap], name: str, index: Optional[int], word: Optional[str] = None) -> None:
-    """Adds the place of an op's line of C, where that is known."""
+    """Adds the place of an op's line of C, if that is known."""
     found = source_map.line(name, index, word) if source_map else None
     if found is not None:
         fields["source"] = found.place

@@ -37,7 +37,7 @@ class Counts:
 
 @dataclass(frozen=True)
 class LoneRun:
-    """The base run of a report without rows, what it says at its end, and its name where it fails."""
+    """The base run of a report without rows, what it says at its end, and its name if it fails."""
 
     head: Head
     ending: List[str]
@@ -118,8 +118,7 @@ def class_name(name: str) -> str:
 
 def write_classes(output: Output, suite: Suite, classes: List[OutcomeClass], lone_run: Optional[LoneRun] = None,
                   empty: Optional[Emptiness] = None) -> None:
-    """A case for each class; of a report without rows one for the base run that it has; and one that says why nothing is tested, where
-    that is so."""
+    """A case for each class. A report without rows has one for its base run. One more says why nothing is tested, if nothing is."""
     cases = [Case(Failure(it.name, it.rows), it.verdict, class_text(it, suite)) for it in classes]
     if not classes and lone_run is not None:
         cases.append(lone_run.case())
@@ -132,7 +131,7 @@ def write_classes(output: Output, suite: Suite, classes: List[OutcomeClass], lon
 
 
 def case_of_nothing(empty: Optional[Emptiness]) -> List[Case]:
-    """The case that says why nothing is tested, where that is so."""
+    """The case that says why nothing is tested, if nothing is."""
     return [] if empty is None else [Case(Failure(empty.name), EMPTY, empty.line())]
 
 
@@ -149,7 +148,7 @@ def counts_of(classes: List[OutcomeClass], empty: Optional[Emptiness] = None) ->
 
 
 def write_rows(output: Output, suite: Suite, runs: Iterable[Any], classes: List[OutcomeClass], empty: Optional[Emptiness] = None) -> None:
-    """A case for each row; and one that says why nothing is tested, where that is so."""
+    """A case for each row, and one that says why nothing is tested, if nothing is."""
     write_start(output, suite, counts_of(classes, empty))
     for run in runs:
         head = run.head

@@ -37,7 +37,7 @@ class Known:
             self.most[name] = int(numbered[1].replace(",", "")) if numbered else None
 
     def why_not(self, failure: Failure) -> Optional[str]:
-        """Why a failure isn't accepted; None where it is."""
+        """Why a failure isn't accepted; None if it is."""
         if failure.name not in self.most:
             return failure.line()
         most = self.most[failure.name]
@@ -67,8 +67,8 @@ def read_names(file: str) -> Known:
 
 
 def judged(failing: List[Failure], known: Known) -> int:
-    """The status: 1 where something fails that isn't accepted. Each of these is named, and how many names are of nothing that
-    fails, or of fewer rows."""
+    """The status: 1 if something fails that isn't accepted. Each of these failures is named. So is the number of accepted names of which nothing
+    fails, or fewer rows do."""
     reasons = [why for why in map(known.why_not, failing) if why is not None]
     for why in reasons:
         print(f"rtosim-report: not accepted: {plain(why)}", file=sys.stderr)

@@ -56,7 +56,7 @@ class Bar:
 
     @property
     def call(self) -> str:
-        """The call that it waits in, with its object where that is known."""
+        """The call that it waits in, with its object if that is known."""
         return f"{self.word} {self.object}" if self.object else self.word
 
 
@@ -76,7 +76,7 @@ class Note:
 
     @property
     def told(self) -> str:
-        """What is reported, without the name of the lane, and with the call's object where that is known."""
+        """What is reported, without the name of the lane, and with the call's object if that is known."""
         event = self.event
         if event.kind is not Kind.CALL and event.kind is not Kind.ISR or not self.object:
             return event.short()
@@ -93,8 +93,8 @@ class Window:
 
 @dataclass
 class Clock:
-    """The elapsed ticks at the boundaries: those that lines show, and between them evenly many. Where ticks are injected a boundary is there
-    twice, before them and after them."""
+    """The elapsed ticks at the boundaries: at some of them lines show these; between them they are spread evenly. A boundary with injected ticks
+    is there twice, before them and after them."""
 
     boundaries: List[int]
     ticks: List[int]
@@ -148,11 +148,11 @@ class Timeline:
         return self.head.ticks >= 1 << 32
 
     def line_of(self, note: Note) -> Optional[SourceLine]:
-        """The line of C of a call, where that is known."""
+        """The line of C of a call, if that is known."""
         return self.source_map.line(note.event.name, note.event.op, note.event.word) if self.source_map else None
 
     def told(self, note: Note) -> str:
-        """What is reported, with the number of its line of C where that is known."""
+        """What is reported, with the number of its line of C if that is known."""
         found = self.line_of(note)
         return f"{note.told} {self.source_map.short(found)}" if found else note.told
 

@@ -12,7 +12,7 @@ from .source import ProgramReader, lone_reader, program_reader
 
 # So many bytes of rows the program makes at once, which it keeps until all of them are made.
 PIECE = 48 << 20
-# So many bytes are read whole: of rows that fail, of which little is looked at, and of rows that pass, which are read line by line.
+# So many bytes of rows are read whole: of rows that fail, little of which is examined, and of rows that pass, which are read line by line.
 MOST_OF_FAILING, MOST_OF_PASSING = 1 << 30, 128 << 20
 # How many bytes are read in a second, and from how many on it is said beforehand.
 BYTES_A_SECOND = {True: 8 << 20, False: 60 << 20}
@@ -94,7 +94,7 @@ class MadeReport:
         return Plan(wants_passing and is_small, self.reads_all or failing <= MOST_OF_FAILING)
 
     def needs(self, plan: Plan, survey: Survey, wants_passing: bool) -> List[str]:
-        """What is read, and what isn't since it is too large, where that is much."""
+        """What is read, and what isn't since it is too large, if that is much."""
         sizes = {it: survey.size(it, self.base()) for it in (PASSING, FAILING)}
         found = []
         for passes, word in ((FAILING, "fail"), *([(PASSING, "pass")] if wants_passing else [])):
@@ -122,7 +122,7 @@ class MadeReport:
             yield from self.campaign(*only, *shard)
 
     def pieces(self, kinds: Sequence[bool], survey: Survey) -> List[List[str]]:
-        """The words for the shards that have such rows, each of which has few enough bytes."""
+        """The words for the shards that have such rows, each with few enough bytes."""
         rows = survey.total.rows
         size = bytes_of_a_step(self.base())
         sizes = sorted((row, steps * size + 80) for it in kinds for row, steps in zip(survey.rows[it], survey.steps[it]))

@@ -1,8 +1,8 @@
-"""A campaign as a picture: a column for each step of injection, a row for each handler, coloured by class; and of points of two injections
-a map of two axes.
+"""A campaign as a picture: a column for each step of injection, a row for each handler, coloured by class; and for points of two injections a
+map of two axes.
 
-Where there are more steps than columns, a column is for several steps, and shows the class that comes first in the
-table. What is kept is the classes of each column, never a row."""
+If there are more steps than columns, a column is for several steps, and shows the class that comes first in the table. Only the classes of
+each column are kept, never a row."""
 from __future__ import annotations
 
 import math

@@ -69,8 +69,8 @@ def take(place: Place, lines: Sequence[Line]) -> None:
 
 
 def next_call(place: Place, name: str, rest: List[Line]) -> Optional[int]:
-    """The index of the call that a task completes next; None where that isn't known. Which branch it takes may depend on variables, which
-    the interrupts that come now may change, so there the rest of the lines is looked at."""
+    """The index of the call that a task completes next; None if that isn't known. Which branch it takes may depend on variables, and these may
+    be changed by the interrupts that come now. Then the rest of the lines is looked at."""
     if place.values:
         calls = (CALL.fullmatch(what) for _, _, what in rest)
         found = next((int(it[3]) for it in calls if it and it[1] == b"call" and it[2].decode() == name), None)

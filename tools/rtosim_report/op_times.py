@@ -23,7 +23,7 @@ class Stretch(NamedTuple):
 
 
 class OpTimes:
-    """The stretches of a task, or none where what is reported isn't what the script says."""
+    """The stretches of a task; none if what is reported isn't what the script says."""
 
     def __init__(self, script: Script, turns: List[Bar], notes: List[Note], history: History) -> None:
         self.walker, self.history = Walker(script), history
@@ -33,7 +33,7 @@ class OpTimes:
         self.is_known = all(self.follow(it) for it in turns)
 
     def follow(self, turn: Bar) -> bool:
-        """Goes through the turn; False where the script says otherwise."""
+        """Goes through the turn; False if the script says otherwise."""
         at = turn.start
         while at < turn.end:
             if self.walker.has_ended:

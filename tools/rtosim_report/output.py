@@ -115,7 +115,7 @@ class Text:
 
 
 class Progress:
-    """Shows on standard error how far a report is read, where that is a terminal and it takes longer than a second."""
+    """Shows on standard error how much of a report is read, if that is a terminal and it takes longer than a second."""
 
     def __init__(self, size: int) -> None:
         self.size, self.start, self.shown = size, time.monotonic(), 0.0

@@ -15,7 +15,7 @@ PATIENCE = 20_000
 
 
 class Blocks:
-    """Of each op that opens, parts or closes a block: where its block opens, parts and closes."""
+    """For each op that opens, parts or closes a block: the ops at which its block opens, parts and closes."""
 
     def __init__(self, script: Script) -> None:
         self.opening, self.closing, self.parting = {}, {}, {}
@@ -35,8 +35,8 @@ class Blocks:
 
 
 def holds(words: List[str], answer: Optional[int], values: Values) -> Optional[bool]:
-    """Whether a condition holds of an answer: `N`, `none`, `not C`, `below N` or `above N`, where N may be a variable; None where that
-    depends on which of its values a variable has."""
+    """Whether a condition holds of an answer: `N`, `none`, `not C`, `below N` or `above N`, where N may be a variable; None if that depends on
+    which of its values a variable has."""
     if words[0] == "not":
         found = holds(words[1:], answer, values)
         return None if found is None else not found
@@ -59,7 +59,7 @@ def numbers_of(word: str, values: Values) -> Tuple[int, ...]:
 
 
 class Walker:
-    """A task on its way through its script. `at` is the op that it does next; behind the last one it has ended."""
+    """A task on its way through its script. `at` is the op that it does next; after the last one the task has ended."""
 
     def __init__(self, script: Script) -> None:
         self.script, self.blocks = script, Blocks(script)
@@ -89,7 +89,7 @@ class Walker:
         self.at += 1
 
     def go_past(self) -> Optional[Walker]:
-        """The op that is next, which has no line, is done. Returns where it would be on the other way, where either may have been taken."""
+        """Does the next op, which has no line. If either way may have been taken, returns the op to which the other way leads."""
         op, ops, other = self.op, self.script.ops, None
         if op.word == "repeat":
             turns = 1 << 62 if op.words[1] == "forever" else int(op.words[1])
@@ -108,7 +108,7 @@ class Walker:
         return other
 
     def otherwise(self) -> int:
-        """The op behind which it goes on where the condition of the `if` that is next doesn't hold."""
+        """The op after which it goes on if the condition of the next op, an `if`, doesn't hold."""
         parting = self.blocks.parting.get(self.at)
         return self.blocks.end_of(self.at, self.script.ops) if parting is None else parting
 
@@ -126,8 +126,8 @@ class Walker:
             self.at = start
 
     def to_call(self, wanted: Optional[int] = None) -> bool:
-        """Goes on to the next op that has a line, or to the end; False where that isn't known, or takes too long to find out. Where either
-        branch may have been taken, it is the one that leads to the op that is wanted."""
+        """Goes on to the next op that has a line, or to the end; False if that isn't known, or takes too long to find out. If either branch may have
+        been taken, it is the one that leads to the op that is wanted."""
         others: List[Walker] = []
         for _ in range(PATIENCE):
             if self.has_ended or not self.op.is_silent:
@@ -146,8 +146,8 @@ class Walker:
 
 
 def walked(script: Script, calls: Iterable[Tuple[int, Optional[int]]]) -> Optional[Walker]:
-    """The walker behind these calls, pairs of an op and an answer, at the next call or the end; None where they are none of the
-    script's, or it isn't found."""
+    """The walker after these calls, which are pairs of an op and an answer, at the next call or the end; None if they aren't the script's, or
+    if no way is found."""
     walker = Walker(script)
     for index, answer in calls:
         if not walker.to_call(index) or walker.at != index:

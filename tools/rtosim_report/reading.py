@@ -12,14 +12,14 @@ from .report import Head, Injection, Line, Point, Verdict
 
 BLOCK = 1 << 20
 NEXT_ROW, TOTAL_LINE = b"\nrow ", b"\ntotal "
-# What a line may look like of which only the beginning is there.
+# What a line may look like if only its beginning is there.
 CUT_LINE = re.compile(rb"[0-9brt][\x20-\x7e]{0,160}")
 AFTER_A_HEAD = f"an event ({grammar.AN_EVENT}), the next row's head line or the total line"
 
 
 class Run(NamedTuple):
-    """One run of a report: its head, the bytes of its event lines, and the number of its head line in the text; and behind a lone run
-    the lines of the state at its end, where it was asked for."""
+    """One run of a report: its head, the bytes of its event lines, and the number of its head line in the text; and after a lone run the lines
+    of the state at its end, if it was asked for."""
 
     head: Head
     text: bytes
@@ -54,8 +54,8 @@ class Run(NamedTuple):
             last = step
 
     def check_end(self, last_line: Optional[Line]) -> None:
-        """In its last step a run that passes goes from a task that ends to idle, to the daemon, or to one that serves for ever: without
-        that line some are missing."""
+        """In its last step a run that passes goes from a task that ends to idle, to the daemon, or to a task that serves forever: without that line
+        some lines are missing."""
         if not self.head.verdict.passes or self.head.steps == 0:
             return
         if last_line is None or not last_line[2].startswith(b"run ") or int(last_line[0]) != self.head.steps - 1:
@@ -94,7 +94,7 @@ class Tally:
 
 
 def tally_of(line: bytes) -> Optional[Tally]:
-    """What a total line counts; None where it is none, or its ends aren't as many as its rows."""
+    """What a total line counts; None if it is no total line, or if its ends aren't as many as its rows."""
     match = grammar.TOTAL.fullmatch(line)
     if match is None:
         return None
@@ -238,7 +238,7 @@ class Reader:
 
 
 class ViewReader(Reader):
-    """The rows of a report of which some are left out (`--only`), or of a shard: their numbers rise, and the total line counts all."""
+    """The rows of a report from which some are left out (`--only`), or of a shard: their numbers rise, and the total line counts all."""
 
     def __init__(self, stream: Any, partial: bool = False, progress: Optional[Progress] = None) -> None:
         super().__init__(stream, partial, progress)
@@ -262,7 +262,7 @@ class ViewReader(Reader):
             super().check_total(total)
 
     def contradiction(self) -> Optional[str]:
-        """Why the rows aren't those of a view, of which those of one end are all written or none is; None where they may be."""
+        """Why the rows aren't those of a view, which has all rows of an end or none; None if they may be."""
         total = self.total
         if total is None:
             return None
@@ -276,7 +276,7 @@ class ViewReader(Reader):
 
 
 def lone_run_of(reader: Iterable[Run]) -> Optional[Run]:
-    """The one run that a text is the report of; None where it is of something else."""
+    """The one run whose report a text is; None if it is a report of something else."""
     try:
         runs = list(reader)
     except Fault:
@@ -323,7 +323,7 @@ def name_of(handler: bytes) -> str:
 
 @functools.lru_cache(maxsize=1 << 14)
 def end_of_head(words: bytes) -> Optional[Tuple[bool, Verdict, int, int]]:
-    """Whether the point is reached, the verdict, the steps and the ticks; None where the words are no end of a head."""
+    """Whether the point is reached, the verdict, the steps and the ticks; None if the words are no end of a head."""
     match = grammar.END_OF_ROW_HEAD.fullmatch(words)
     if match is None:
         return None
@@ -332,7 +332,7 @@ def end_of_head(words: bytes) -> Optional[Tuple[bool, Verdict, int, int]]:
 
 
 def row_head(match: Match[bytes]) -> Optional[Head]:
-    """The head of a row, or None where its end is none, or the steps of its injections fall."""
+    """The head of a row; None if its words are no end of a head, or if the steps of its injections fall."""
     row, step, handler, more, words = match.groups()
     end = end_of_head(words)
     if end is None:
@@ -347,7 +347,7 @@ def row_head(match: Match[bytes]) -> Optional[Head]:
 
 
 def further_injections(words: bytes) -> List[Injection]:
-    """Those behind the first."""
+    """The injections after the first one."""
     parts = words.split()
     return [Injection(int(step), name_of(handler)) for step, handler in zip(parts[::2], parts[1::2])]
 
@@ -369,7 +369,7 @@ def parts_of_rows(stream: Any) -> Iterator[bytes]:
 
 
 def run_of_part(part: bytes) -> Optional[Run]:
-    """The run of such a text, or None where it is none. The number of its line isn't known."""
+    """The run of such a text; None if it has none. The number of its line isn't known."""
     match = grammar.ROW_HEAD.match(part + b"\n")
     head = None if match is None else row_head(match)
     if match is None or head is None:

@@ -1,6 +1,6 @@
-"""Where a report comes from: a file, standard input, or the program. It can be read again and again, from its beginning.
+"""What a report is read from: a file, standard input, or the program. It can be read again and again, from its beginning.
 
-What can't be read twice, as a pipe, is copied to a file without a name in the folder for temporary files."""
+What can't be read twice, such as a pipe, is copied to a file without a name in the folder for temporary files."""
 from __future__ import annotations
 
 import io
@@ -173,8 +173,8 @@ def lone_reader(*words: str) -> List[Run]:
 
 
 def state_source(application: str, words: Sequence[str]) -> Optional[Source]:
-    """The run of the point that these words name, with the state at its end; None where the program writes none. It has made
-    a report before, so what it says of words that it doesn't know is kept from standard error."""
+    """The run of the point that these words name, with the state at its end; None if the program writes none. It has made a report before, so
+    what it says of words that it doesn't know is kept from standard error."""
     try:
         streams: Any = {"stdout": subprocess.PIPE, "stderr": subprocess.DEVNULL}
         ran = subprocess.run([PROGRAM, "run", application, *words, "--state"], check=False, **streams)

@@ -1,4 +1,4 @@
-"""Who is suspended when by another task. A report has the call, but not whom it is about; the application's scripts say it."""
+"""When each task is suspended, and by which task. A report has the call, but not the task that it is about: the application's scripts have."""
 from __future__ import annotations
 
 from typing import Any, Iterator, List, NamedTuple, Optional, Sequence, TYPE_CHECKING, Tuple
@@ -11,7 +11,7 @@ if TYPE_CHECKING:
 
 
 class Change(NamedTuple):
-    """A `suspend` or a `resume` that changes something: when, of whom, and by whom. The task isn't always known."""
+    """A `suspend` or a `resume` that changes something: when, which task, and by which task. The task isn't always known."""
 
     boundary: int
     task: Optional[str]
@@ -40,8 +40,8 @@ def changes_of(builder: Builder) -> List[Change]:
 
 def known_stretches(name: str, changes: List[Change], bar_start: int, bar_end: int, doing: Optional[Doing],
                     comes_back: bool) -> Iterator[Tuple[int, int, Optional[Doing]]]:
-    """The stretch in which a task does this, cut where it is suspended: from there on it is suspended, and Ready when it is resumed.
-    Where it may be suspended, and it isn't known, the rest is left out. Yields starts, ends and what is done."""
+    """The stretch in which a task does this, cut at each suspension: from there on the task is suspended, and Ready when it is resumed. If it may
+    be suspended, and that isn't known, the rest is left out. Yields starts, ends and what is done."""
     at = bar_start
     for it in changes:
         if not bar_start <= it.boundary < bar_end or not it.may_be_of(name):

@@ -52,7 +52,7 @@ def what_differs(it: OutcomeClass) -> str:
 
 
 def words_of(it: OutcomeClass) -> List[str]:
-    """The cause, where it says more than the verdict, what differs in the first row, and what that says at its end."""
+    """The cause, if it says more than the verdict, what differs in the first row, and what that says at its end."""
     lines = [it.name] if it.is_by_cause and it.name != it.verdict.text else []
     if it.is_by_head:
         return [*lines, *([it.what_differs] if it.what_differs else []), *it.ending]
@@ -87,7 +87,7 @@ RIGHT = {0, 1, 2, 5, 6}
 
 
 def aligned(table: List[List[str]], right: AbstractSet[int] = frozenset(RIGHT)) -> Iterator[str]:
-    """The lines of a table, of which the columns of these indices end at one place."""
+    """The lines of a table. The columns of these indices are aligned at their ends."""
     widths = [max(map(len, column)) for column in zip(*table)]
     for row in table:
         parts = (it.rjust(w) if at in right else it.ljust(w) for at, (it, w) in enumerate(zip(row, widths)))
@@ -112,7 +112,7 @@ def of_base(it: OutcomeClass, base: BaseRun) -> List[str]:
 
 def write_classes(output: Output, classes: List[OutcomeClass], base: BaseRun, total: Tally, given: Given, failing: bool = False,
                   notes: Sequence[str] = ()) -> None:
-    """The table, with the lines of each class below its own; of those that fail alone, where that is asked for; and notes on the whole, as
+    """The table, with the lines of each class below its own; only of failing classes, if that is asked for. Notes on the whole follow, such as
     what a lone run says at its end."""
     shown = [it for it in classes if not (failing and it.verdict.passes)]
     passing = total.by_kind["pass"]

@@ -1,4 +1,4 @@
-"""The folder for temporary files: where it has no room, that is what is reported."""
+"""The folder for temporary files: if it has no room, that is the fault that is reported."""
 import contextlib
 import os
 import tempfile

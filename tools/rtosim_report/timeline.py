@@ -1,7 +1,6 @@
 """A run as a timeline: who runs in which steps, what is reported at which, and what the events show of waits and windows.
 
-A report has changes of the processor and the ends of calls. What isn't shown by them, nor by the scripts where the application is
-known, isn't drawn."""
+A report has changes of the processor and the ends of calls. What neither these show, nor the scripts of a known application, isn't drawn."""
 from __future__ import annotations
 
 from itertools import combinations
@@ -130,7 +129,7 @@ class Builder:
 
     @property
     def daemon_name(self) -> Optional[str]:
-        """The daemon's name, or None where it isn't known by the application."""
+        """The daemon's name; None if no application is known that has one."""
         daemon = self.application.daemon if self.application else None
         return None if daemon is None else daemon.name
 
@@ -143,8 +142,8 @@ class Builder:
         return self.head.verdict.kind == "check" and changes != [] and changes[-1] != name
 
     def first_runner(self, handlers: Set[str]) -> str:
-        """Who runs at reset: whom a line names before the first change, or where that is to idle the one task that is named, since
-        all tasks have run before idle does."""
+        """Who runs at reset: the task that a line names before the first change. If there is none and that change is to idle, it is the one task that
+        is named, since all tasks have run before idle does."""
         if self.application is not None and self.application.first_runner() is not None:
             return self.application.first_runner()
         changed_to, named = None, set()
@@ -206,8 +205,7 @@ class Builder:
         return self.head.verdict.passes and self.turns[-1].lane.kind is LaneKind.IDLE
 
     def injections(self) -> Tuple[Injection, ...]:
-        """Those that come if their handlers can: the first one where the point is reached, a later one where the run isn't over before its
-        step."""
+        """Those that come if their handlers can: the first one if the point is reached, a later one if the run isn't over before its step."""
         if self.head.point is None or not self.head.is_reached:
             return ()
         return tuple(it for it in self.head.point if it.step < self.head.steps)
@@ -234,7 +232,7 @@ class Builder:
         return op.object or "" if op is not None else ""
 
     def away(self, daemon: Optional[Lane]) -> Tuple[List[Bar], List[Tuple[Lane, int]], Dict[Lane, List[Stretch]]]:
-        """What the tasks but the daemon do between their turns, as far as it is known, where they end, and which ops they are in."""
+        """What the tasks except the daemon do between their turns, as far as it is known, when they end, and which ops they are in."""
         found, endings, ops = [], [], {}
         changes = changes_of(self)
         for name, lane in self.lanes.items():
@@ -265,8 +263,8 @@ class Builder:
         return [Window(lane_of(it.handler), it.start, it.end, kind) for kind, stretches in kinds for it in stretches]
 
     def pending(self, windows: List[Window], come: Sequence[Injection]) -> Iterator[Bar]:
-        """From where handlers were injected in a critical section to where they came, or to the run's end: by the sections where they are
-        known, otherwise by the handlers' lines."""
+        """From the boundary at which handlers were injected in a critical section to that at which they came, or to the run's end: by the sections
+        if they are known, otherwise by the handlers' lines."""
         masked = [it for it in windows if it.kind is WindowKind.MASKED]
         if self.application is not None and not self.application.has_sections:
             return

@@ -66,15 +66,15 @@ SOURCE_LEGEND = [("armed", "armed"), ("raised", "raised")]
 
 @dataclass
 class Layout:
-    """Where steps and lanes are."""
+    """The places of steps and lanes."""
 
     timeline: Timeline
     left: float
     right: float
-    # The first step of each band, and the one behind its last. They may have steps in common.
+    # The first step of each band, and the step after its last one. Bands may have steps in common.
     spans: List[Tuple[int, int]]
     lane_tops: List[float]
-    # Where the rows of variables begin, in a band.
+    # How far below the beginning of a band the rows of variables begin.
     variables_top: float
     band_height: float
     axis: float
@@ -317,7 +317,7 @@ def write_windows(output: Output, layout: Layout, index: int, windows: List[Wind
 
 
 def write_endings(output: Output, layout: Layout, index: int, boundaries: List[int]) -> None:
-    """Where a task has ended."""
+    """Marks the end of each task that has ended."""
     for boundary in boundaries:
         for band in layout.bands_of(max(0, boundary - 1)):
             at, top = layout.across(band, boundary), layout.bar_top(band, index)
@@ -338,7 +338,7 @@ def write_notes(output: Output, layout: Layout, index: int, notes: List[Note]) -
 
 
 def write_marks(output: Output, layout: Layout, index: int, band: int, notes: List[Note], labels: Labels) -> None:
-    """The marks of one band. Those that can't be seen apart are one, but for that of the answer for which a check failed. That one's text, and
+    """The marks of one band. Those that can't be seen apart are one, except for that of the answer for which a check failed. Its text, and
     those of injected handlers, are shown in any case."""
     marked, top, failing = float("-inf"), layout.bar_top(band, index), failing_note(layout.timeline)
     for (step, is_injected), group in groupby(notes, key=lambda it: (it.step, it.is_injected)):
@@ -363,7 +363,7 @@ def failing_note(timeline: Timeline) -> Optional[Note]:
 
 
 def write_failure(output: Output, layout: Layout) -> None:
-    """Where a run ends by a check or a misuse: in the lane of the task."""
+    """Marks the end of a run by a check or a misuse, in the lane of the task."""
     head = layout.timeline.head
     names = [it.name for it in layout.timeline.lanes]
     if head.verdict.task not in names or not head.steps:
@@ -398,5 +398,5 @@ def write_injection(output: Output, layout: Layout, band: int, step: int, text: 
 
 
 def left_of(layout: Layout, at: float, text: str) -> float:
-    """Where a text at an injection begins: so far to the left that it ends within the picture."""
+    """The left end of a text at an injection, chosen so that the text ends within the picture."""
     return min(at + 5, layout.width - 4 - drawing.width_of(text))

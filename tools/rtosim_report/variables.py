@@ -41,7 +41,7 @@ def stores_of(application: Application, events: List[Event]) -> Iterator[Tuple[i
 
 
 class History:
-    """The values of all variables of an application along a run. `boundary` answers when the event of an index is seen."""
+    """The values of all variables of an application along a run. `boundary` returns when the event of an index is seen."""
 
     def __init__(self, application: Optional[Application], events: List[Event], boundary: Callable[[int], int]) -> None:
         self.events = events

@@ -1,5 +1,5 @@
-"""Where each task of a stuck run is, by its lines and the scripts. Up to its injection a row is the base run, so the tasks are followed
-through the base run once, and through each row from its injection on."""
+"""Where each task of a stuck run is, by its lines and the scripts. Up to its injection a row is the base run. So the tasks are followed once
+through the base run, and through each row from its injection on."""
 from __future__ import annotations
 
 import copy
@@ -23,8 +23,8 @@ STRIDE = 4096
 
 
 class Place:
-    """How far each task is: its walker, which is None where the script is left, and its last call; who is suspended by whom; and which
-    values variables have, and had since the last call of a task."""
+    """How far each task is: its walker, which is None if the run doesn't follow its script, and its last call; who is suspended by which task;
+    and which values variables have, and had since the last call of a task."""
 
     def __init__(self, application: Application) -> None:
         self.application = application
@@ -90,7 +90,7 @@ class Place:
         return ", ".join(it for it in found if it)
 
     def words_of_task(self, script: Script) -> str:
-        """Where this task is, or nothing where it has ended, or serves forever and waits for what it serves."""
+        """Where this task is; empty if it has ended, or if it serves forever and waits for what it serves."""
         name, walker = script.name, self.walker(script.name)
         # one that is suspended before its last op is complete has ops left, though they may have no line
         has_ops_left = name in self.suspended and not (walker is not None and walker.has_ended)
@@ -107,7 +107,7 @@ class Place:
 
 
 class Whereabouts:
-    """The tasks of an application in the runs of a campaign, of which the base run may be known."""
+    """The tasks of an application in the runs of a campaign, whose base run may be known."""
 
     def __init__(self, application: Application, base: Any = None) -> None:
         self.application, self.base = application, base

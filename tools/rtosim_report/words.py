@@ -19,7 +19,7 @@ def takes_points() -> bool:
 
 
 def words_of_point(point: Optional[Point], has_points: bool) -> Optional[List[str]]:
-    """The words for a point, none for the base run; None where the program has none."""
+    """The words for a point, none for the base run; None if the program has no words for it."""
     if point is None:
         return []
     if point.is_single:

@@ -1,13 +1,13 @@
-//! The two streams of a program whose output may go through a pipe. The reader of a pipe may leave before it has read everything, as
-//! `head` does. That is no fault of the output, so the other stream must not call it one.
+//! The two streams of a program whose output may go through a pipe. The reader of a pipe may leave before it has read everything,
+//! as `head` does. That is no fault of the output, so the other stream must not call it one.
 //!
 //! The streams share a cell, which says whether the reader has left. No clause can say what a cell holds: that is tested.
 use crate::stream::{Failed, Sink};
 use std::cell::Cell;
 use std::io::{ErrorKind, Write};
 
-/// A writer as the sink of the output. Any error of the writer is a failed call, after which there is none. If the error is a closed
-/// pipe, the cell is set.
+/// A writer as the sink of the output. Any error of the writer is a failed call, after which there is none. If the error is a
+/// closed pipe, the cell is set.
 #[derive(Drop)]
 pub struct Output<'a, W> {
     writer: W,
@@ -56,8 +56,8 @@ impl<W: Write> Sink for Output<'_, W> {
     }
 }
 
-/// A writer as the sink of what is said about the output. Any error of the writer is a failed call, after which there is none. If the
-/// reader of the output has left, the next call fails too, and the writer gets nothing.
+/// A writer as the sink of messages. Any error of the writer is a failed call, after which there is none. If the reader of the output
+/// has left, the next call fails too, and the writer gets nothing.
 #[derive(Drop)]
 pub struct Messages<'a, W> {
     writer: W,

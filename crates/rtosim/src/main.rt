@@ -20,8 +20,8 @@ const LARGE_STACK: usize = 880_640;
 // And a run that nothing else is asked of.
 const STACK: usize = 323_584;
 
-// The status if the reader of standard output left: 128 and the number of SIGPIPE, as a shell reports a program that this signal ended
-// (profile).
+// The status if the reader of standard output left (profile): 128 and the number of SIGPIPE, as a shell reports a program that this
+// signal ended.
 const READER_LEFT: u8 = 141;
 
 // Takes the stack of a campaign, and gives it back: it stays the program's. So

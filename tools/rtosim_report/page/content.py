@@ -1,43 +1,56 @@
-"""What the page is of: the classes with their first rows whole, all points by class, the base run, the scripts.
+"""What the page shows: the classes with their first rows whole, all points by class, the base run, the scripts.
 
-Texts that come again are kept once. Rows that follow each other with one class, handler and rising steps are kept as one."""
+Each text is kept once. Rows of one class and one handler whose numbers and steps rise by one are kept as one stretch."""
+from __future__ import annotations
+
 import hashlib
 import re
 from array import array
+from typing import Any, Dict, List, Optional, Tuple
 
+from .. import timeline
+from ..classes import OutcomeClass
 from ..colours import colours_of, has_light_text
 from ..escaping import plain, shell_word
-from ..show import Mark, all_pairs
+from ..job import Job
+from ..lanes import Timeline
+from ..output import Text
+from ..reading import Run
+from ..report import Head, Line
+from ..show import Mark, Pair, all_pairs
 from ..table import base_words, span, words_of
-from .. import timeline
 from .embedding import json_text
 
+# A JSON object.
+Json = Dict[str, Any]
 # A run of more lines is too long for a page.
 MOST_LINES = 20_000
 LONGEST_SLUG = 60
-# Of a run that is too long so many lines are shown around its injection, around the first difference, around its end, and at that of the
-# base run.
+# If a run is too long, this many lines before and after its injection are shown. The same goes for its first difference, its end, and the
+# base run's end.
 AROUND = 150
 
 
 class Texts:
     """Each text once, by a number."""
 
-    def __init__(self):
-        self.numbers = {}
+    def __init__(self) -> None:
+        self.numbers: Dict[str, int] = {}
 
-    def number(self, text):
+    def number(self, text: str) -> int:
         return self.numbers.setdefault(text, len(self.numbers))
 
 
 class Points:
-    """All rows in order: of each stretch its first row, the first step, the handler, the class, and how many rows it has."""
+    """All rows in order. A stretch has five numbers: its first row, the first step, the handler, the class, and how many rows it has."""
 
-    def __init__(self):
+    def __init__(self) -> None:
         self.handlers, self.stretches = Texts(), array("q")
-        self.several, self.missed = [], []
+        self.several: List[List[Any]] = []
+        self.missed: List[List[Any]] = []
 
-    def add(self, head, class_index):
+    def add(self, head: Head, class_index: int) -> None:
+        assert head.row is not None, "a row of a campaign has a number"
         if not head.is_reached:
             self.missed.append([head.row, head.point.text(), class_index])
             return
@@ -54,28 +67,31 @@ class Points:
 class Content:
     """Reads a job's report."""
 
-    def __init__(self, job):
+    def __init__(self, job: Job) -> None:
         self.job = job
-        self.texts, self.points, self.firsts, self.indices = Texts(), Points(), [], {}
+        self.texts, self.points = Texts(), Points()
+        # The first row of each class as JSON; and the index of a class, by its identity.
+        self.firsts: List[str] = []
+        self.indices: Dict[int, int] = {}
         self.classes = job.classify(self.see)
         self.rows = job.total.rows
         name = job.given.application or job.given.report
-        self.title = f"{plain(name)}: {self.rows:,} rows" if name not in (None, "-") else f"{self.rows:,} rows"
+        self.title = f"{plain(name)}: {self.rows:,} rows" if name and name != "-" else f"{self.rows:,} rows"
 
-    def see(self, run, found):
-        """Takes a row with its class; the first one of a class whole."""
+    def see(self, run: Run, found: OutcomeClass) -> None:
+        """Takes a row and its class. The first row of a class is kept whole."""
         index = self.indices.setdefault(id(found), len(self.indices))
         if index == len(self.firsts):
             self.firsts.append(json_text(self.run_content(self.whole(run))))
         self.points.add(run.head, index)
 
-    def whole(self, run):
-        """A row of which perhaps the head alone is there, whole if the program can make it."""
+    def whole(self, run: Run) -> Run:
+        """The whole row. If only its head is there, the program is asked for the rest, if it can be."""
         is_head = not run.text and run.head.steps > 0
         return self.job.made.row(run.head.row) if is_head and self.job.made else run
 
-    def run_content(self, run):
-        content = {"head": run.head.text(), "row": run.head.row}
+    def run_content(self, run: Run) -> Json:
+        content: Json = {"head": run.head.text(), "row": run.head.row}
         if self.job.has_heads_alone:
             return {**content, "tooLong": 0}
         pairs = all_pairs(run, self.job.base)
@@ -89,29 +105,29 @@ class Content:
             return {**content, "tooLong": lines}
         return {**content, "lanes": self.lanes_content(self.with_source(timeline.of_row(run, self.job.base, self.job.texts)))}
 
-    def with_source(self, found):
+    def with_source(self, found: Timeline) -> Timeline:
         found.source_map = self.job.source_map
         return found
 
-    def shared(self, pairs):
-        """How many lines at the beginning are those of the base run, which the page has once."""
+    def shared(self, pairs: List[Pair]) -> int:
+        """How many lines the row has in common with the base run, from the beginning on. The page has these once."""
         base = self.job.base
         if base is None or len(base.lines) > MOST_LINES:
             return 0
         return next((at for at, it in enumerate(pairs) if it.mark is not Mark.SAME or at >= len(base.lines)), len(pairs))
 
-    def pairs_content(self, pairs, shared):
-        """What marks say, the row's lines but the first ones, and the base run's lines where they aren't the row's."""
-        others = [it.base for it in pairs if it.mark in (Mark.NUMBERS, Mark.OTHER, Mark.ONLY_BASE)]
+    def pairs_content(self, pairs: List[Pair], shared: int) -> Json:
+        """The marks, the row's lines after the shared ones, and the base run's lines that the row doesn't have."""
+        others = [it.base for it in pairs if it.base is not None and it.mark in (Mark.NUMBERS, Mark.OTHER, Mark.ONLY_BASE)]
         lines = [it.row for it in pairs[shared:] if it.row is not None]
         return {"marks": "".join(it.mark.value for it in pairs), "shared": shared, "lines": self.lines_content(lines),
                 "others": self.lines_content(others)}
 
-    def lines_content(self, lines):
+    def lines_content(self, lines: List[Line]) -> List[int]:
         """Step, tick and text of each, one after the other."""
         return [it for step, tick, what in lines for it in (int(step), int(tick), self.texts.number(what.decode()))]
 
-    def lanes_content(self, found):
+    def lanes_content(self, found: Timeline) -> Json:
         lanes = {it: at for at, it in enumerate(found.lanes)}
         text, clock = self.texts.number, found.clock
         return {
@@ -120,16 +136,17 @@ class Content:
             "notes": [[lanes[it.lane], it.step, int(it.is_injected), text(found.told(it))] for it in found.notes],
             "windows": [[lanes[it.lane], it.start, it.end, it.kind.name.lower()] for it in found.windows],
             "endings": [[lanes[lane], at] for lane, at in found.endings], "injections": [[it.step, it.handler] for it in found.injections],
-            "variables": [[name, [at for it in stretches for at in (it.start, it.end, it.value)]] for name, stretches in found.variables.items()],
+            "variables": [[name, [at for it in stretches for at in (it.start, it.end, it.value)]]
+                          for name, stretches in found.variables.items()],
             "clock": [clock.start, clock.boundaries, clock.ticks],
             "ops": [[lanes[lane], [at for it in ops for at in (it.start, it.end, it.op)]] for lane, ops in found.ops.items()],
         }
 
-    def base_content(self):
+    def base_content(self) -> Optional[Json]:
         base = self.job.base
         if base is None:
             return None
-        content = {"words": base_words(base), "lines": [], "head": base.head.text() if base.head else None}
+        content: Json = {"words": base_words(base), "lines": [], "head": base.head.text() if base.head else None}
         if len(base.lines) > MOST_LINES:
             return {**content, "tooLong": len(base.lines)}
         content["lines"] = self.lines_content(base.lines)
@@ -137,7 +154,7 @@ class Content:
             content["lanes"] = self.lanes_content(self.with_source(timeline.of_base(base, self.job.texts)))
         return content
 
-    def class_content(self, it, colour):
+    def class_content(self, it: OutcomeClass, colour: str) -> Json:
         return {
             "index": self.indices[id(it)], "number": it.number, "name": it.name, "link": link_of(it.name), "words": words_of(it),
             "verdict": it.verdict.text, "fails": not it.verdict.passes, "isBase": it.is_base, "rows": it.rows,
@@ -145,29 +162,31 @@ class Content:
             "handlers": list(it.handlers), "colour": colour, "isLight": has_light_text(colour),
         }
 
-    def command_content(self):
-        """What the command of a row is made of."""
+    def command_content(self) -> Json:
+        """The parts of the command that shows a row."""
         given = self.job.given
         if given.application is not None:
             return {"run": f"rtosim run {shell_word(given.application)}", "takesPoints": given.takes_points}
-        if given.report in (None, "-"):
+        if given.report is None or given.report == "-":
             return {}
         return {"show": shell_word(given.report), "base": f" --base {shell_word(given.base)}" if given.base else ""}
 
-    def scripts_content(self):
+    def scripts_content(self) -> List[List[Any]]:
         texts = self.job.texts
-        scripts = [*texts.tasks.values(), *texts.handlers.values()] if texts else []
+        if texts is None:
+            return []
+        scripts = [*texts.tasks.values(), *texts.handlers.values()]
         return [[it.name, it.name in texts.tasks, [op.text for op in it.ops]] for it in scripts]
 
-    def source_content(self):
-        """The file that was translated, and of each task and handler the lines of C of its ops."""
+    def source_content(self) -> Optional[Json]:
+        """The file that was translated, and the lines of C of each op, by task and handler."""
         found = self.job.source_map
         if found is None:
             return None
         return {"main": found.main, "lines": {name: list(map(found.column, ops)) for name, ops in found.owners()}}
 
-    def write(self, output):
-        """The object, one key a line. The texts are last, when all of them are known."""
+    def write(self, output: Text) -> None:
+        """Writes the object, a line for each key. The texts are last, since only then all of them are known."""
         colours = colours_of(self.classes)
         points = self.points
         parts = {
@@ -183,19 +202,21 @@ class Content:
         output.line(f'"texts":{json_text(list(self.texts.numbers))}')
         output.line("}")
 
-    def write_firsts(self, output):
-        """The first rows of the classes, each by itself: a browser reads one when it is looked at."""
+    def write_firsts(self, output: Text) -> None:
+        """Writes the first row of each class as an element of its own. A browser parses it only when it is looked at."""
         for index, it in enumerate(self.firsts):
             output.line(f'<script type="application/json" id="first-{index}">{it}</script>')
 
 
-def excerpt(pairs):
-    """The pairs around the injection, the first difference and the ends of the row and of the base run; and before which of them how many
-    others are left out."""
+def excerpt(pairs: List[Pair]) -> Tuple[List[Pair], List[List[int]]]:
+    """The pairs around the injection, the first difference and both ends. Each fold is the number of the shown pairs before it, and how many
+    pairs it leaves out."""
     marked = [at for at, it in enumerate(pairs) if it.mark is not Mark.SAME]
     differing = [at for at in marked if pairs[at].mark is not Mark.OWN]
     ends = [at for at, it in enumerate(pairs) if it.row is not None][-1:]
-    shown, folds, last = [], [], -1
+    shown: List[Pair] = []
+    folds: List[List[int]] = []
+    last = -1
     for at, it in enumerate(pairs):
         if any(abs(at - there) <= AROUND for there in (*marked[:1], *differing[:1], *ends, len(pairs) - 1)):
             if at > last + 1:
@@ -205,7 +226,7 @@ def excerpt(pairs):
     return shown, folds
 
 
-def link_of(name):
-    """What a link to a class of this name ends with."""
+def link_of(name: str) -> str:
+    """The fragment of a link to the class of this name."""
     slug = re.sub(r"[^A-Za-z0-9]+", "-", name).strip("-").lower()[:LONGEST_SLUG]
     return f"{slug}-{hashlib.blake2b(name.encode(), digest_size=4).hexdigest()}"

@@ -1,4 +1,4 @@
-// A class, or the base run: its words, the command, the lanes, the lines beside those of the base run, the scripts; and one cursor.
+// A class, or the base run: its words, the command, the lanes, the lines beside those of the base run, and the scripts. They share a cursor.
 
 const detail = document.getElementById("detail");
 const STYLES = { "|": "other", "<": "only-base", ">": "only-row", "+": "own" };
@@ -39,7 +39,7 @@ async function copyCommand() {
   document.getElementById("copy").textContent = "copied";
 }
 
-// The pairs of lines: what a mark says is there on either side.
+// The pairs of lines. A mark says which side has a line.
 function pairsOf(first) {
   const shared = first.shared ? linesOf(data.base.lines.slice(0, 3 * first.shared)) : [];
   const lines = [...shared, ...linesOf(first.lines)], others = linesOf(first.others);
@@ -138,7 +138,7 @@ function showBase() {
   detail.append(runView({ ...data.base, head: data.base.head || "" }, table));
 }
 
-// The op that each lane's task is in at a step.
+// The op of each lane's task at a step.
 function opsAt(run, step) {
   const found = new Map();
   for (const [lane, numbers] of run.ops) {
@@ -174,7 +174,7 @@ function scrollWithin(box, line) {
   if (top < 24 || top > box.clientHeight - 24) box.scrollTop += top - box.clientHeight / 2;
 }
 
-// Moves the cursor over the lanes, the lines and the scripts; the lines are brought into sight where that is wanted.
+// Moves the cursor over the lanes, the lines and the scripts. The lines are scrolled to it if that is asked for.
 function moveCursor(step, brings = true) {
   if (!shownRun) return;
   state.step = Math.max(0, Math.min(shownRun.run.steps - 1, step));

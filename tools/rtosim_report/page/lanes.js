@@ -2,7 +2,7 @@
 
 const BAR = 14, LABEL = 14, LANE_GAP = 12, VARIABLE_ROW = 22, PLOT_TOP = 22, WIDEST = 54, NARROWEST = 6, MOST_WIDE = 60000;
 const DOING = { runs: "runs", waits: "waits", sleeps: "sleeps", suspended: "is suspended", ready: "is Ready", pending: "is pending" };
-// Of each kind of window how far below the bar it is, and what is so.
+// For each kind of window: how far below the bar it is, and what it means.
 const WINDOWS = { locked: [1, "the queue is locked"], held: [5, "the scheduler is held"], masked: [1, "interrupts are masked"],
   armed: [1, "the interrupt is armed"], raised: [5, "the interrupt is raised"] };
 const LEGEND = [["runs", "runs"], ["waits", "waits in a call"], ["sleeps", "sleeps"], ["suspended", "suspended"], ["ready", "Ready"],
@@ -11,7 +11,7 @@ const LEGEND = [["runs", "runs"], ["waits", "waits in a call"], ["sleeps", "slee
 // Kinds of windows that are in the legend only if the run has them.
 const SELDOM = ["armed", "raised"];
 
-// The elapsed ticks at a boundary: those that are known, and between them evenly many.
+// The elapsed ticks at a boundary: those that are known, spread evenly between known ones.
 function tickAt([, boundaries, ticks], boundary) {
   let at = boundaries.length - 1;
   while (at > 0 && boundaries[at] > boundary) at -= 1;
@@ -119,8 +119,8 @@ class Lanes {
     this.svg.append(shape("rect", box, null, `${what}: steps ${start} to ${end - 1}`));
   }
 
-  // A mark at each step, and what is reported above it; a text without room is counted behind one beside it. The last one of a lane, which
-  // may be the answer that fails, is shown in any case.
+  // A mark at each step, and what is reported above it. A text without room is counted after one beside it. The last one of a lane, which
+  // may be the answer that fails, is always shown.
   drawNotes(notes, lane) {
     const rows = [[], []], top = this.tops[lane];
     const groups = new Map();
@@ -174,7 +174,7 @@ class Lanes {
     }
   }
 
-  // Moves the cursor, and the lanes so that it is seen.
+  // Moves the cursor, and the lanes so that it is visible.
   moveTo(step) {
     this.cursor.setAttribute("x", this.across(step));
     const box = this.svg.parentElement;

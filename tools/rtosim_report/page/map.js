@@ -1,4 +1,4 @@
-// The map of points: a column for each step, a row for each handler; closer or farther, and the cell that is chosen.
+// The map of points, which can be zoomed: a column for each step, a row for each handler, and the chosen cell.
 
 const canvas = document.getElementById("map");
 const CELL = 26, GAP = 8, TOP = 8, AXIS = 22, MARGIN = 12, CHARACTER = 7.3, NUMBER_FROM = 14;
@@ -20,7 +20,7 @@ function styleOf(name) {
   return getComputedStyle(document.documentElement).getPropertyValue(name).trim();
 }
 
-// Of each column of points on the screen the class that comes first.
+// For each column of pixels the first class of its points, in the order of classes.
 function columnsOf(handler) {
   const width = Math.max(1, Math.floor(mapWidth()));
   const scale = width / (view.to - view.from);
@@ -49,7 +49,7 @@ function drawCells(draw, handler, top) {
   }
 }
 
-// Where there is room, lines between the cells and the numbers of their classes.
+// If there is room, lines between the cells, and the numbers of their classes.
 function drawNumbers(draw, handler, top) {
   const width = mapWidth() / (view.to - view.from);
   if (width < NUMBER_FROM) return;
@@ -114,12 +114,12 @@ function drawMap() {
   document.getElementById("range").textContent = data.handlers.length ? shown : "no points";
 }
 
-// Where a cell is, in the canvas.
+// The place of a cell in the canvas.
 function boxOf(handler, step) {
   return { left: across(step), top: TOP + handler * (CELL + GAP), width: across(step + 1) - across(step), height: CELL };
 }
 
-// The point below a place in the canvas: of the steps of a column the first one of the class that is seen there.
+// The point below a place in the canvas: the first step of the column at which the class comes that is shown there.
 function pointBelow(x, y) {
   const handler = Math.floor((y - TOP) / (CELL + GAP));
   if (handler < 0 || handler >= data.handlers.length || x < left()) return null;
@@ -134,7 +134,7 @@ function pointBelow(x, y) {
   return best;
 }
 
-// So many times the steps, around this place.
+// Shows this many times the steps, around this place.
 function zoom(factor, around = (view.from + view.to) / 2) {
   const whole = lastStep + 1;
   const width = Math.min(whole, Math.max(Math.min(5, whole), (view.to - view.from) * factor));
@@ -148,7 +148,7 @@ function moveTo(from, width) {
   drawMap();
 }
 
-// Moves the map so that the step is in it.
+// Moves the map so that the step is visible.
 function bring(step) {
   const width = view.to - view.from;
   if (step < view.from || step + 1 > view.to) moveTo(step - width / 2, width);

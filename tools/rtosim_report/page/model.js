@@ -1,11 +1,11 @@
-// What the page is of: the data, the classes in their order, the points of each handler, and what is chosen.
+// What the page shows: the data, the classes in their order, the points of each handler, and what is chosen.
 
 const data = JSON.parse(document.getElementById("data").textContent);
 const STRETCH = 5;
 const byIndex = new Map(data.classes.map(it => [it.index, it]));
 const several = new Map(data.several.map(([row, point]) => [row, point]));
 
-// The stretches of points of each handler: the first row, the first step, the class and how many.
+// The stretches of points of each handler. A stretch has its first row, its first step, the class, and the number of its rows.
 const pointsOf = data.handlers.map(() => []);
 let lastStep = 0;
 for (let at = 0; at < data.points.length; at += STRETCH) {
@@ -14,7 +14,7 @@ for (let at = 0; at < data.points.length; at += STRETCH) {
   lastStep = Math.max(lastStep, step + count - 1);
 }
 
-// Of each handler and step the stretch of the class that comes first, by its place; -1 where there is none.
+// For each handler and step the index of a stretch: the one whose class comes first; -1 if there is none.
 const stretchAt = pointsOf.map(stretches => {
   const found = new Int32Array(lastStep + 1).fill(-1);
   stretches.forEach((it, at) => {
@@ -25,7 +25,7 @@ const stretchAt = pointsOf.map(stretches => {
   return found;
 });
 
-// The first row of a class, which is read when it is looked at.
+// The first row of a class. It is parsed when it is first looked at.
 const readFirsts = new Map();
 function firstOf(index) {
   if (!readFirsts.has(index)) readFirsts.set(index, JSON.parse(document.getElementById(`first-${index}`).textContent));
@@ -38,7 +38,7 @@ function counted(number, noun) {
   return `${number.toLocaleString("en")} ${noun}${number === 1 ? "" : noun.endsWith("ss") ? "es" : "s"}`;
 }
 
-// Whether the filter leaves a class.
+// Whether a class passes the filter.
 function isShown(it) {
   if (state.failing && !it.fails) return false;
   if (state.handler && !it.handlers.includes(state.handler)) return false;
@@ -46,7 +46,7 @@ function isShown(it) {
   return state.words.toLowerCase().split(/\s+/).every(word => text.includes(word));
 }
 
-// The row of a handler's point, of the class that comes first where there are several; or null.
+// The row of a handler's point, or null. If there are several, it is one of the class that comes first.
 function pointAt(handler, step) {
   const at = step >= 0 && step <= lastStep ? stretchAt[handler][step] : -1;
   if (at < 0) return null;
@@ -54,7 +54,7 @@ function pointAt(handler, step) {
   return { handler, step, row: it.row + step - it.step, found: it.found };
 }
 
-// The command that shows a row, or the entry for a campaign of several injections.
+// The command that shows a row. For several injections that no command takes, it is the entry for a campaign.
 function commandOf(row, pointText) {
   const words = pointText.split(" ");
   if (words.length > 2) return data.command.takesPoints ? `${data.command.run} --point '${pointText}'` : `points = ["${pointText}"]`;
@@ -63,13 +63,13 @@ function commandOf(row, pointText) {
   return data.command.show ? `rtosim-report show ${row} ${data.command.show}${data.command.base}` : at;
 }
 
-// The point of a class's first row, as its head line has it.
+// The point of a class's first row, as in its head line.
 function pointOfHead(head) {
   const found = /^row \d+ at (.*?): /.exec(head);
   return found ? found[1] : "";
 }
 
-// The lines of a run, an object each.
+// The lines of a run, as an object each.
 function linesOf(numbers) {
   const found = [];
   for (let at = 0; at < numbers.length; at += 3) {

@@ -40,7 +40,7 @@ function markChosen() {
   }
 }
 
-// Shows a class, or the base run; of a point that was chosen in the map also its row.
+// Shows a class, or the base run. If a point was chosen in the map, its row is shown too.
 function choose(it, point) {
   state.found = it;
   state.point = point;
@@ -85,7 +85,7 @@ function stepClass(by) {
   if (shown[at]) choose(shown[at], null);
 }
 
-// The next point of the chosen handler to either side.
+// The nearest point of the chosen handler, to the left or to the right.
 function stepPoint(by) {
   const from = state.point || { handler: 0, step: by > 0 ? -1 : lastStep + 1 };
   for (let step = from.step + by; step >= 0 && step <= lastStep; step += by) {

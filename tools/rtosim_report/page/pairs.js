@@ -1,5 +1,5 @@
 // The points of two injections as a map of two axes: a column for each step of the first one, a row for how many steps later the second one
-// comes, of each pair of handlers a panel. With more columns or rows than there is room for, each is for several steps.
+// comes, and a panel for each pair of handlers. If there is no room for all columns or rows, each is for several steps.
 
 const MOST_COLUMNS = 540, MOST_ROWS = 48, WIDEST_PAIR = 26, HIGHEST_PAIR = 14, LOWEST_PAIR = 5, PANEL_TITLE = 18, PANEL_AXIS = 22;
 const pairs = { panels: new Map(), last: 0, farthest: 0 };
@@ -13,7 +13,7 @@ for (const [row, point, index] of data.several) {
   pairs.farthest = Math.max(pairs.farthest, later);
 }
 
-// Of each cell the point that is seen: of the classes that the filter leaves, if there is one, and of these the one that comes first.
+// For each cell the point that is shown: one of a class that passes the filter, if there is one, and among these of the first class.
 function cellsOf(points, wide, high) {
   const cells = new Map(), place = it => (isShown(it.found) ? 0 : data.classes.length) + it.found.number;
   for (const it of points) {
