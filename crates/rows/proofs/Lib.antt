@@ -7,5 +7,4 @@ pub mod Placed
 mod Sending
 mod Stretched
 mod Telling
-mod Texts
 pub mod Totalling

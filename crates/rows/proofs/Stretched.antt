@@ -1,14 +1,17 @@
 -- Stretches of a trail that are spelled once.
-use Rattle.std.proofs.Common.{◌≡◌, ◌+◌, ◌-◌, ◌≤◌, ◌∙◌, ℕ, zero, suc, List, [], ◌∷◌, ◌++◌, take, drop}
+use Rattle.std.proofs.Common.{◌≡◌, ◌+◌, ◌-◌, ◌≤◌, ◌∙◌, ℕ, zero, suc, List, [], ◌∷◌, take, drop}
 use Rattle.std.proofs.Common.{length, slice_index_or, slice_range, ap, arith, ◌<◌}
-use Rattle.std.specs.Prelude.{IfSome, slice_get}
+use Rattle.std.specs.Prelude.{IfSome, Option, None, Some, slice_get}
+use Rattle.machine.specs.Logged.{all_of}
 use Rattle.std.proofs.lemmas.List.{drop-drop, drop-take, length-drop, length-take-le}
 use Rattle.model.specs.Application.{Application}
 use Rattle.model.specs.declared.event.Event.{Event}
 use Rattle.report.specs.Writing.{Events}
+use Rattle.rows.specs.declared.campaign_report.Rows.{Rows}
+use Rattle.rows.specs.declared.rows.Part.{Part}
 use Rattle.rows.specs.declared.stretches.Found.{Found}
 use Rattle.rows.specs.declared.stretches.Stretch.{Stretch}
-use Rattle.rows.specs.Stretches.{IsStretch, IsTail}
+use Rattle.rows.specs.Stretches.{AreOf, AreOfPart, IsStretch, IsTail}
 
 -- what holds of the element at each place holds of each that is got
 pub each_got : {X : Type 0} (P : ℕ → X → Type 0) (xs : List X) → ((i : ℕ) (d : X) → i < length xs → P i (slice_index_or xs i d))
@@ -42,3 +45,11 @@ tail_is app trail stretch is from to end low rises within found events before =
       within = omega (arith, at, all, count);
       behind = ap (drop found.before) its ∙ behind_first trail stretch.first from to found.before rises at;
     }
+
+-- Stretches that were found are of the part's trail.
+pub of_part : {X : Type 0} (events : X → Events) (app : Application) (rows : Rows) (number : ℕ) (part : Part)
+    → slice_get rows.parts.items number ≡ Some part
+    → (found : Option X) → IfSome found (λ s. AreOfPart app rows number (events s))
+    → IfSome found (λ s. AreOf app (all_of part.trail) (events s))
+of_part events app rows number part there None is = tt
+of_part events app rows number part there (Some s) is = is part there

@@ -1,7 +1,7 @@
 -- The rows of places, one after the other.
 use Rattle.std.specs.Prelude.{slice_get, Some, Option}
 use Rattle.std.specs.List.{AllByRecursion, flat_map}
-use Rattle.std.proofs.Common.{◌≡◌, ◌<◌, ◌+◌, ℕ, zero, suc, List, [], ◌∷◌, ◌++◌, length, take, drop, slice_index_or, sym}
+use Rattle.std.proofs.Common.{◌≡◌, ◌<◌, ◌≤◌, ◌+◌, ℕ, zero, suc, List, [], ◌∷◌, ◌++◌, length, take, drop, slice_index_or, sym}
 use Rattle.std.proofs.Common.{subst, ap, ◌∙◌, append_assoc, append-nil, add-one, arith}
 use Rattle.std.proofs.lemmas.List.{length-take, length-drop, length-map}
 use Rattle.model.specs.Run.{Run}
@@ -39,6 +39,12 @@ within_list (y ∷ xs) (suc i) x e = let l = within_list xs i x e in omega arith
 
 pub same_part : (a b : Part) → Some a ≡ Some b → a ≡ b
 same_part a b e = cc e
+
+-- there are as many rows in the part of a place
+pub place_within : (parts : List Part) (place : Place) (is : IsPlace parts place) (part : Part)
+    → slice_get parts place.part ≡ Some part → place.first + place.count ≤ length part.kept
+place_within parts place is part there =
+    subst (λ (p : Part). place.first + place.count ≤ length p.kept) (same_part is.part part (sym is.at_part ∙ there)) is.within
 
 -- a part of kept rows
 pub parts_kept : (base : Run) (parts : List Part) (i : ℕ) (part : Part)

@@ -1,3 +1,4 @@
+pub mod Events
 pub mod Links
 pub mod Pieces
 pub mod Placing

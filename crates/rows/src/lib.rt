@@ -7,6 +7,7 @@ mod desk;
 mod kept_rows;
 mod lanes;
 mod link;
+mod part_events;
 mod piece;
 mod placing;
 mod row_texts;

@@ -4,12 +4,14 @@ ghost use Rattle.std.specs.Result.{is_err};
 ghost use Rattle.byte_io.specs.Buffers.{bytes_of};
 ghost use Rattle.byte_io.specs.Bytes.{Writes};
 ghost use Rattle.report.specs.Text.{row_text};
-ghost use Rattle.rows.specs.Links.{AreLegs};
-ghost use Rattle.rows.specs.Report.{row_of, store_of, AreKept, IsKept, IsSound};
+ghost use Rattle.rows.specs.declared.rows.Part as declared;
+ghost use Rattle.rows.specs.Events.{row_from, AreEventsOf, HaveRow};
+ghost use Rattle.rows.specs.Report.{AreKept, IsSound};
 ghost use Rattle.rows.specs.Stretches.{AreOfPart, AreOfParts};
 ghost use Rattle.rows.specs.Texts.{IsTextOf};
 
 use crate::campaign_report::Rows;
+use crate::part_events::PartEvents;
 use crate::rows::{KeptRow, Part};
 use crate::stretches::{Stretches, stretches_of};
 use crate::writing::add_row;
@@ -75,21 +77,16 @@ fn write_row<W: Sink>(
     writer: &mut W,
     report: &mut ReportWriter<'_>,
     row: &KeptRow,
-    base: &Run,
-    events: &BaseEvents<'_>,
-    part: &Part,
+    events: &PartEvents<'_, '_>,
 ) -> Result<(), WriteFault>
     requires working { W.has_failed writer.old ≡ false }
-    requires app { events.now.app ≡ report.old.app }
-    requires base { events.now.events ≡ base.now.events }
-    requires legs { AreLegs base.now.events (store_of part.now) }
-    requires kept { IsKept base.now (store_of part.now) row.now }
+    requires events { AreEventsOf report.old.app events.now }
+    requires kept { HaveRow events.now row.now }
     requires empty { report.old.page ≡ [] }
     ensures app { report.new.app ≡ report.old.app }
-    ensures text { Writes (W.held writer.old) (W.held writer.new) result
-        (row_text report.old.app 0 (row_of base.now (store_of part.now) row.now)) }
+    ensures text { Writes (W.held writer.old) (W.held writer.new) result (row_text report.old.app 0 (row_from events.now row.now)) }
 {
-    add_row(writer, report, 0, row, base, events, part, None)?;
+    add_row(writer, report, 0, row, events)?;
     report.finish(writer)
 }
 
@@ -99,21 +96,17 @@ fn text_of(
     most: usize,
     report: &mut ReportWriter<'_>,
     row: &KeptRow,
-    base: &Run,
-    events: &BaseEvents<'_>,
-    part: &Part,
+    events: &PartEvents<'_, '_>,
 ) -> Option<Buffer>
-    requires app { events.now.app ≡ report.old.app }
-    requires base { events.now.events ≡ base.now.events }
-    requires legs { AreLegs base.now.events (store_of part.now) }
-    requires kept { IsKept base.now (store_of part.now) row.now }
+    requires events { AreEventsOf report.old.app events.now }
+    requires kept { HaveRow events.now row.now }
     requires empty { report.old.page ≡ [] }
     ensures app { report.new.app ≡ report.old.app }
     ensures empty { report.new.page ≡ [] }
-    ensures text { IfSome result (λ buffer. bytes_of buffer ≡ row_text report.old.app 0 (row_of base.now (store_of part.now) row.now)) }
+    ensures text { IfSome result (λ buffer. bytes_of buffer ≡ row_text report.old.app 0 (row_from events.now row.now)) }
 {
     let mut buffer = Buffer::new(alloc, most);
-    let written = write_row(&mut buffer, report, row, base, events, part);
+    let written = write_row(&mut buffer, report, row, events);
     report.clear();
     if written.is_err() {
         return None;
@@ -186,16 +179,8 @@ impl<'a> RowTexts<'a> {
         texts
     }
 
-    /// The events of the base run.
-    pub(crate) fn events(&self) -> &BaseEvents<'a>
-        ensures app { result.now.app ≡ self.now.app }
-        ensures events { result.now.events ≡ self.now.rows.base.events }
-    {
-        &self.events
-    }
-
-    /// The stretches of the trail of the part of this number, as far as they are spelled.
-    pub(crate) fn stretches(&self, part_number: usize) -> Option<&Stretches<'a>>
+    // The stretches of the trail of the part of this number, as far as they are spelled.
+    fn stretches(&self, part_number: usize) -> Option<&Stretches<'a>>
         ensures { IfSome result (λ s. AreOfPart self.now.app self.now.rows part_number s.now) }
     {
         match &self.stretches {
@@ -204,6 +189,24 @@ impl<'a> RowTexts<'a> {
                 Some(found)
             }
             None => None,
+        }
+    }
+
+    /// The events of the rows of the part of this number.
+    pub(crate) fn events(&self, part_number: usize) -> PartEvents<'_, 'a>
+        requires within { part_number < length self.now.rows.parts.items }
+        requires kept { (part : declared.Part) → slice_get self.now.rows.parts.items part_number ≡ Some part
+            → AreKept self.now.rows.base part }
+        ensures events { AreEventsOf self.now.app result }
+        ensures base { result.base.now ≡ self.now.rows.base }
+        ensures part { slice_get self.now.rows.parts.items part_number ≡ Some result.part.now }
+    {
+        let stretches = self.stretches(part_number);
+        PartEvents {
+            base: &self.rows.base,
+            base_events: &self.events,
+            part: &self.rows.parts[part_number],
+            stretches,
         }
     }
 
@@ -236,45 +239,6 @@ impl<'a> RowTexts<'a> {
         }
     }
 
-    // Adds the text of a row of a part, if it is of at most this many bytes. Returns how long it
-    // is, if there was memory for it.
-    fn add(
-        &mut self,
-        alloc: Global,
-        report: &mut ReportWriter<'_>,
-        part_number: usize,
-        part: &Part,
-        number: usize,
-        most: usize,
-    ) -> Option<usize>
-        requires part { slice_get self.old.rows.parts.items part_number ≡ Some part.now }
-        requires kept { AreKept self.old.rows.base part.now }
-        requires number { number < length part.now.kept }
-        requires app { self.old.app ≡ report.old.app }
-        requires empty { report.old.page ≡ [] }
-        ensures same { self.new ≡ self.old }
-        ensures app { report.new.app ≡ report.old.app }
-        ensures empty { report.new.page ≡ [] }
-    {
-        let row = part.kept.at(number);
-        let buffer = text_of(
-            alloc,
-            most,
-            report,
-            row,
-            &self.rows.base,
-            &self.events,
-            part,
-        )?;
-        let length = buffer.bytes().len();
-        let text = RowText {
-            part: part_number,
-            number,
-            buffer,
-        };
-        if self.push(text) { Some(length) } else { None }
-    }
-
     // Adds the texts of the different rows of a part, from the first on, if most of its rows came before.
     fn add_part(
         &mut self,
@@ -300,10 +264,19 @@ impl<'a> RowTexts<'a> {
             if part.kept.place(number) != self.count().saturating_sub(first) {
                 continue;
             }
-            let Some(length) = self.add(alloc, report, part_number, part, number, room) else {
+            let row = part.kept.at(number);
+            let Some(buffer) = text_of(alloc, room, report, row, &self.events(part_number)) else {
                 return;
             };
-            room = room.saturating_sub(length);
+            room = room.saturating_sub(buffer.bytes().len());
+            let text = RowText {
+                part: part_number,
+                number,
+                buffer,
+            };
+            if !self.push(text) {
+                return;
+            }
         }
     }
 

@@ -11,6 +11,7 @@ ghost use Rattle.rows.specs.declared.speller.Spelling as declared;
 ghost use Rattle.rows.specs.Pieces.{text_of, AreFresh, ArePairs, GoOn, HasSent, HaveReceived, HaveSent, IsPiece, IsSpelling};
 
 use crate::desk::{Desk, give_back, take_from};
+use crate::lanes::Lanes;
 use crate::piece::Piece;
 use crate::speller::{Spelled, Speller, Spelling};
 use crate::writing::write_piece;
@@ -113,13 +114,11 @@ fn spell_all<R: Threads + Wait + Sync>(rt: &R, spelling: &Spelling<'_>, spellers
     thread::for_each_mut(rt, spellers, threads, &each);
 }
 
-// Spells pieces in the threads of the other spellers, while this one spells too, and writes the texts.
+// Spells pieces in the threads of the other spellers, while the own one spells too, and writes the texts.
 fn write_beside<R: Threads + Wait + Sync, W: Sink>(
     rt: &R,
     spelling: &Spelling<'_>,
-    own: &mut Speller,
-    others: &mut [Speller],
-    desks: &mut [Desk],
+    lanes: &mut Lanes,
     writer: &mut W,
     report: &mut ReportWriter<'_>,
 ) -> Result<(), WriteFault>
@@ -127,17 +126,20 @@ fn write_beside<R: Threads + Wait + Sync, W: Sink>(
     requires working { W.has_failed writer.old ≡ false }
     requires app { spelling.now.texts.app ≡ report.old.app }
     requires empty { report.old.page ≡ [] }
-    ensures ring { SameProducer own.old.spelled own.new.spelled }
-    ensures own { HasSent spelling.now own.old → HasSent spelling.now own.new }
-    ensures pairs { (desks : List desk.Desk) → ArePairs others.old desks → ArePairs others.new desks }
-    ensures others { HaveSent spelling.now others.old → HaveSent spelling.now others.new }
-    ensures desks { GoOn desks.old desks.new }
+    ensures ring { SameProducer lanes.old.own.spelled lanes.new.own.spelled }
+    ensures own { HasSent spelling.now lanes.old.own → HasSent spelling.now lanes.new.own }
+    ensures pairs { (desks : List desk.Desk) → ArePairs lanes.old.others.items desks → ArePairs lanes.new.others.items desks }
+    ensures others { HaveSent spelling.now lanes.old.others.items → HaveSent spelling.now lanes.new.others.items }
+    ensures desks { GoOn lanes.old.desks.items lanes.new.desks.items }
     ensures app { report.new.app ≡ report.old.app }
-    ensures text { HaveReceived spelling.now desks.new
+    ensures text { HaveReceived spelling.now lanes.new.desks.items
         → Writes (W.held writer.old) (W.held writer.new) result (flat_map (text_of spelling.now) spelling.now.pieces.items) }
     ensures empty { OnOk result (report.new.page ≡ []) }
     ensures failed { W.has_failed writer.new ≡ is_err result }
 {
+    let own = &mut lanes.own;
+    let others = lanes.others.as_mut_slice();
+    let desks = lanes.desks.as_mut_slice();
     let mut theirs = ||
         requires spelling { IsSpelling spelling.now }
         requires sync { IsSync R.row }
@@ -194,20 +196,18 @@ fn compare_all(own: &mut Speller, others: &mut [Speller], desks: &mut [Desk])
 }
 
 /// Writes the texts of all pieces, in their order. The other spellers spell in threads of their own
-/// if they can be started, and this one in this thread, which writes. What a speller has no memory
-/// for is spelled by way of this report, all of whose text has gone out. It waits for them.
+/// if they can be started, and the own one in this thread, which writes. What a speller has no
+/// memory for is spelled by way of this report, all of whose text has gone out. It waits for them.
 pub(crate) fn write_side_by_side<R: Threads + Wait + Sync, W: Sink>(
     rt: &R,
     spelling: &Spelling<'_>,
-    own: &mut Speller,
-    others: &mut [Speller],
-    desks: &mut [Desk],
+    lanes: &mut Lanes,
     writer: &mut W,
     report: &mut ReportWriter<'_>,
 ) -> Result<(), WriteFault>
     requires spelling { IsSpelling spelling.now }
-    requires pairs { ArePairs (own.old ∷ others.old) desks.old }
-    requires fresh { AreFresh (own.old ∷ others.old) }
+    requires pairs { ArePairs (lanes.old.own ∷ lanes.old.others.items) lanes.old.desks.items }
+    requires fresh { AreFresh (lanes.old.own ∷ lanes.old.others.items) }
     requires working { W.has_failed writer.old ≡ false }
     requires app { spelling.now.texts.app ≡ report.old.app }
     requires empty { report.old.page ≡ [] }
@@ -216,7 +216,7 @@ pub(crate) fn write_side_by_side<R: Threads + Wait + Sync, W: Sink>(
     ensures empty { OnOk result (report.new.page ≡ []) }
     ensures failed { W.has_failed writer.new ≡ is_err result }
 {
-    let written = write_beside(rt, spelling, own, others, desks, writer, report);
-    compare_all(own, others, desks);
+    let written = write_beside(rt, spelling, lanes, writer, report);
+    compare_all(&mut lanes.own, &mut lanes.others, &mut lanes.desks);
     written
 }

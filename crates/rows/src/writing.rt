@@ -6,26 +6,27 @@ ghost use Rattle.byte_io.specs.Bytes.{Adds, Writes};
 ghost use Rattle.machine.specs.Logged.{all_of};
 ghost use Rattle.model.specs.Scripts.{most_points};
 ghost use Rattle.model.specs.Campaign.{totals_of};
+ghost use Rattle.model.specs.Run.{Run};
 ghost use Rattle.report.specs.Text.{event_text, row_text, total_text};
 ghost use Rattle.report.specs.Views.{report_text, row_head, shown_row, shown_rows};
 ghost use Rattle.report.specs.declared.title.Title.TheVariants as title;
-ghost use Rattle.rows.specs.Links.{told_at, AreLegs, IsLink, Store};
-ghost use Rattle.rows.specs.Report.{row_of, rows_in, store_of, whole, AreKept, IsKept, IsSound};
-ghost use Rattle.rows.specs.Stretches.{AreOf};
+ghost use Rattle.rows.specs.Events.{row_from, AreEventsOf, HaveRow, IsKnownRow};
+ghost use Rattle.rows.specs.Links.{told_at, IsLink, Store};
+ghost use Rattle.rows.specs.Report.{row_of, rows_at, store_of, whole, IsPlace, IsSound};
 ghost use Rattle.rows.specs.Pieces.{piece_text, AreFresh, ArePairs, ArePieces, IsPiece, IsSpelling};
 
 use crate::campaign_report::{Report, Rows};
 use crate::lanes::{Lanes, lanes_of};
 use crate::link::{Leg, Link};
+use crate::part_events::{KnownRow, PartEvents};
 use crate::piece::{Piece, pieces_of};
 use crate::row_texts::RowTexts;
-use crate::rows::{KeptRow, Part};
+use crate::rows::{KeptRow, Place};
 use crate::side_by_side::write_side_by_side;
 use crate::speller::Spelling;
-use crate::stretches::Stretches;
 use byte_io::{Sink, WriteFault};
-use model::{App, Ending, Event, Run};
-use report::{BaseEvents, ReportWriter, Title, View};
+use model::{App, Ending};
+use report::{ReportWriter, Title, View};
 use std::alloc::Global;
 use std::sync::Wait;
 use std::sync::atomic::AtomicU64;
@@ -73,55 +74,31 @@ fn leg_at(legs: &[Leg], number: usize) -> Leg
     legs[number]
 }
 
-// Adds the lines of a trail's events between these places, which are on the leg of this number: by
+// Adds the lines of a part's own events between these places, which are on the leg of this number: by
 // their text, if that is spelled.
 fn add_leg<W: Sink>(
     writer: &mut W,
     text: &mut ReportWriter<'_>,
-    stretches: &Stretches<'_>,
-    trail: &[Event],
+    events: &PartEvents<'_, '_>,
     number: usize,
     from: usize,
     to: usize,
 ) -> Result<(), WriteFault>
     requires working { W.has_failed writer.old ≡ false }
-    requires stretches { AreOf text.old.app trail.now stretches.now }
+    requires events { AreEventsOf text.old.app events.now }
     requires rises { from ≤ to }
-    requires within { to ≤ length trail.now }
+    requires within { to ≤ length (all_of events.now.part.now.trail) }
     ensures app { text.new.app ≡ text.old.app }
     ensures text { Adds (W.held writer.old) (W.held writer.new) text.old.page text.new.page result
-        (flat_map (event_text text.old.app) (slice_range trail.now from to)) }
+        (flat_map (event_text text.old.app) (slice_range (all_of events.now.part.now.trail) from to)) }
     ensures failed { W.has_failed writer.new ≡ is_err result }
 {
-    match stretches.find(number, from, to) {
-        Some(found) => text.add_base_from(writer, found.events, found.before),
-        None => text.add_events(writer, &trail[from..to]),
+    if let Some(stretches) = events.stretches
+        && let Some(found) = stretches.find(number, from, to)
+    {
+        return text.add_base_from(writer, found.events, found.before);
     }
-}
-
-// The same, if there may be no stretches.
-fn add_stretch<W: Sink>(
-    writer: &mut W,
-    text: &mut ReportWriter<'_>,
-    stretches: Option<&Stretches<'_>>,
-    trail: &[Event],
-    number: usize,
-    from: usize,
-    to: usize,
-) -> Result<(), WriteFault>
-    requires working { W.has_failed writer.old ≡ false }
-    requires stretches { IfSome stretches (λ s. AreOf text.old.app trail.now s.now) }
-    requires rises { from ≤ to }
-    requires within { to ≤ length trail.now }
-    ensures app { text.new.app ≡ text.old.app }
-    ensures text { Adds (W.held writer.old) (W.held writer.new) text.old.page text.new.page result
-        (flat_map (event_text text.old.app) (slice_range trail.now from to)) }
-    ensures failed { W.has_failed writer.new ≡ is_err result }
-{
-    match stretches {
-        Some(stretches) => add_leg(writer, text, stretches, trail, number, from, to),
-        None => text.add_events(writer, &trail[from..to]),
-    }
+    text.add_events(writer, &events.part.trail.events()[from..to])
 }
 
 // Adds the lines of the events that follow a link of a part.
@@ -129,28 +106,23 @@ fn add_told<W: Sink>(
     writer: &mut W,
     text: &mut ReportWriter<'_>,
     first: Link,
-    events: &BaseEvents<'_>,
-    part: &Part,
-    stretches: Option<&Stretches<'_>>,
+    events: &PartEvents<'_, '_>,
 ) -> Result<(), WriteFault>
     requires working { W.has_failed writer.old ≡ false }
-    requires app { events.now.app ≡ text.old.app }
-    requires stretches { IfSome stretches (λ s. AreOf text.old.app (all_of part.now.trail) s.now) }
-    requires legs { AreLegs events.now.events (store_of part.now) }
-    requires link { IsLink events.now.events (store_of part.now) first }
+    requires events { AreEventsOf text.old.app events.now }
+    requires link { IsLink events.now.base.now.events (store_of events.now.part.now) first }
     ensures app { text.new.app ≡ text.old.app }
     ensures text { Adds (W.held writer.old) (W.held writer.new) text.old.page text.new.page result
-        (flat_map (event_text text.old.app) (told_at events.now.events (store_of part.now) first)) }
+        (flat_map (event_text text.old.app) (told_at events.now.base.now.events (store_of events.now.part.now) first)) }
     ensures failed { W.has_failed writer.new ≡ is_err result }
 {
-    let trail = part.trail.events();
     let mut link = first;
     'legs: loop {
         match link {
-            Link::Base { from } => return text.add_base_from(writer, events, from),
+            Link::Base { from } => return text.add_base_from(writer, events.base_events, from),
             Link::Leg { number, from } => {
-                let leg = leg_at(&part.legs, number);
-                add_stretch(writer, text, stretches, trail, number, from, leg.to)?;
+                let leg = leg_at(&events.part.legs, number);
+                add_leg(writer, text, events, number, from, leg.to)?;
                 link = leg.next;
             }
         }
@@ -164,158 +136,126 @@ pub(crate) fn add_row<W: Sink>(
     text: &mut ReportWriter<'_>,
     number: usize,
     row: &KeptRow,
-    base: &Run,
-    events: &BaseEvents<'_>,
-    part: &Part,
-    stretches: Option<&Stretches<'_>>,
+    events: &PartEvents<'_, '_>,
 ) -> Result<(), WriteFault>
     requires working { W.has_failed writer.old ≡ false }
-    requires app { events.now.app ≡ text.old.app }
-    requires stretches { IfSome stretches (λ s. AreOf text.old.app (all_of part.now.trail) s.now) }
-    requires base { events.now.events ≡ base.now.events }
+    requires events { AreEventsOf text.old.app events.now }
     requires few { number ≤ most_points }
-    requires legs { AreLegs base.now.events (store_of part.now) }
-    requires kept { IsKept base.now (store_of part.now) row.now }
+    requires kept { HaveRow events.now row.now }
     ensures app { text.new.app ≡ text.old.app }
     ensures text { Adds (W.held writer.old) (W.held writer.new) text.old.page text.new.page result
-        (row_text text.old.app number (row_of base.now (store_of part.now) row.now)) }
+        (row_text text.old.app number (row_from events.now row.now)) }
     ensures failed { W.has_failed writer.new ≡ is_err result }
 {
     let title = title_of(number, row);
-    text.begin_row(writer, title, ending_of(row), events, row.shared)?;
-    add_told(writer, text, row.told, events, part, stretches)
+    text.begin_row(
+        writer,
+        title,
+        ending_of(row),
+        events.base_events,
+        row.shared,
+    )?;
+    add_told(writer, text, row.told, events)
 }
 
-// Adds the head line of a row of this number.
+// Adds the head line of a row of this number, whatever its events are.
 fn add_row_head<W: Sink>(
     writer: &mut W,
     text: &mut ReportWriter<'_>,
     number: usize,
     row: &KeptRow,
-    base: &Run,
 ) -> Result<(), WriteFault>
     requires working { W.has_failed writer.old ≡ false }
     requires few { number ≤ most_points }
     ensures app { text.new.app ≡ text.old.app }
-    ensures text { (store : Store) → Adds (W.held writer.old) (W.held writer.new) text.old.page text.new.page result
-        (row_head text.old.app number (row_of base.now store row.now)) }
+    ensures text { (base : Run) (store : Store) → Adds (W.held writer.old) (W.held writer.new) text.old.page text.new.page result
+        (row_head text.old.app number (row_of base store row.now)) }
     ensures failed { W.has_failed writer.new ≡ is_err result }
 {
     text.add_head(writer, title_of(number, row), ending_of(row))
 }
 
-// Adds a row of this number to a report. Its text under the number 0 may be known.
+// Adds a row of this number to a report.
 fn add_kept_row<W: Sink>(
     writer: &mut W,
     text: &mut ReportWriter<'_>,
     number: usize,
-    row: &KeptRow,
-    known: Option<&[u8]>,
-    base: &Run,
-    events: &BaseEvents<'_>,
-    part: &Part,
-    stretches: Option<&Stretches<'_>>,
+    row: &KnownRow<'_>,
+    events: &PartEvents<'_, '_>,
 ) -> Result<(), WriteFault>
     requires working { W.has_failed writer.old ≡ false }
-    requires app { events.now.app ≡ text.old.app }
-    requires stretches { IfSome stretches (λ s. AreOf text.old.app (all_of part.now.trail) s.now) }
-    requires base { events.now.events ≡ base.now.events }
+    requires events { AreEventsOf text.old.app events.now }
     requires few { number ≤ most_points }
-    requires legs { AreLegs base.now.events (store_of part.now) }
-    requires kept { IsKept base.now (store_of part.now) row.now }
-    requires known { IfSome known (λ t. t.now ≡ row_text text.old.app 0 (row_of base.now (store_of part.now) row.now)) }
+    requires row { IsKnownRow text.old.app events.now row.now }
     ensures app { text.new.app ≡ text.old.app }
     ensures text { Adds (W.held writer.old) (W.held writer.new) text.old.page text.new.page result
-        (row_text text.old.app number (row_of base.now (store_of part.now) row.now)) }
+        (row_text text.old.app number (row_from events.now row.now.kept.now)) }
     ensures failed { W.has_failed writer.new ≡ is_err result }
 {
-    match known {
+    match row.text {
         Some(known) => text.add_row_again(writer, number as u32, known),
-        None => add_row(writer, text, number, row, base, events, part, stretches),
+        None => add_row(writer, text, number, row.kept, events),
     }
 }
 
-// Adds what the view shows of a row of this number. The row's text under the number 0 may be known.
+// Adds what the view shows of a row of this number.
 fn add_shown_row<W: Sink>(
     writer: &mut W,
     text: &mut ReportWriter<'_>,
     view: View,
     number: usize,
-    row: &KeptRow,
-    known: Option<&[u8]>,
-    base: &Run,
-    events: &BaseEvents<'_>,
-    part: &Part,
-    stretches: Option<&Stretches<'_>>,
+    row: &KnownRow<'_>,
+    events: &PartEvents<'_, '_>,
 ) -> Result<(), WriteFault>
     requires working { W.has_failed writer.old ≡ false }
-    requires app { events.now.app ≡ text.old.app }
-    requires stretches { IfSome stretches (λ s. AreOf text.old.app (all_of part.now.trail) s.now) }
-    requires base { events.now.events ≡ base.now.events }
+    requires events { AreEventsOf text.old.app events.now }
     requires few { number ≤ most_points }
-    requires legs { AreLegs base.now.events (store_of part.now) }
-    requires kept { IsKept base.now (store_of part.now) row.now }
-    requires known { IfSome known (λ t. t.now ≡ row_text text.old.app 0 (row_of base.now (store_of part.now) row.now)) }
+    requires row { IsKnownRow text.old.app events.now row.now }
     ensures app { text.new.app ≡ text.old.app }
     ensures text { Adds (W.held writer.old) (W.held writer.new) text.old.page text.new.page result
-        (shown_row text.old.app view number (row_of base.now (store_of part.now) row.now)) }
+        (shown_row text.old.app view number (row_from events.now row.now.kept.now)) }
     ensures failed { W.has_failed writer.new ≡ is_err result }
 {
-    if !view.shows(row.end) {
+    if !view.shows(row.kept.end) {
         return Ok(());
     }
     if view.heads {
-        return add_row_head(writer, text, number, row, base);
+        return add_row_head(writer, text, number, row.kept);
     }
-    add_kept_row(
-        writer, text, number, row, known, base, events, part, stretches,
-    )
+    add_kept_row(writer, text, number, row, events)
 }
 
-// Adds what the view shows of this many rows of the part of this number, from the first on, which are numbered from here.
+// Adds what the view shows of the rows of a place, which are numbered from here.
 fn add_place<W: Sink>(
     writer: &mut W,
     text: &mut ReportWriter<'_>,
-    view: View,
-    number: usize,
-    base: &Run,
+    rows: &Rows,
     texts: &RowTexts<'_>,
-    part_number: usize,
-    part: &Part,
-    first: usize,
-    count: usize,
+    place: Place,
+    number: usize,
 ) -> Result<(), WriteFault>
     requires working { W.has_failed writer.old ≡ false }
     requires app { texts.now.app ≡ text.old.app }
-    requires base { texts.now.rows.base ≡ base.now }
-    requires part { slice_get texts.now.rows.parts.items part_number ≡ Some part.now }
-    requires few { number + count ≤ most_points }
-    requires kept { AreKept base.now part.now }
-    requires within { first + count ≤ length part.now.kept }
+    requires rows { texts.now.rows ≡ rows.now }
+    requires sound { IsSound rows.now }
+    requires place { IsPlace rows.now.parts.items place }
+    requires few { number + place.count ≤ most_points }
     ensures app { text.new.app ≡ text.old.app }
     ensures text { Adds (W.held writer.old) (W.held writer.new) text.old.page text.new.page result
-        (shown_rows text.old.app view number (rows_in base.now part.now first count)) }
+        (shown_rows text.old.app rows.now.view number (rows_at rows.now.base rows.now.parts.items place)) }
     ensures failed { W.has_failed writer.new ≡ is_err result }
 {
+    let events = texts.events(place.part);
+    let part = events.part;
     // A part has no more rows than fit, so the sums below do.
     let _ = part.kept.len();
-    let stretches = texts.stretches(part_number);
-    for index in 0..count {
-        let row_number = first + index;
-        let row = part.kept.at(row_number);
-        let known = texts.find(part_number, part, row_number);
-        add_shown_row(
-            writer,
-            text,
-            view,
-            number + index,
-            row,
-            known,
-            base,
-            texts.events(),
-            part,
-            stretches,
-        )?;
+    for index in 0..place.count {
+        let row_number = place.first + index;
+        let row = KnownRow {
+            kept: part.kept.at(row_number),
+            text: texts.find(place.part, part, row_number),
+        };
+        add_shown_row(writer, text, rows.view, number + index, &row, &events)?;
     }
     Ok(())
 }
@@ -343,19 +283,7 @@ fn add_piece<W: Sink>(
     while cursor.number < end {
         let number = cursor.number;
         let place = cursor.take(rows, end - number);
-        let part = &rows.parts[place.part];
-        add_place(
-            writer,
-            text,
-            rows.view,
-            rows.first + number,
-            &rows.base,
-            texts,
-            place.part,
-            part,
-            place.first,
-            place.count,
-        )?;
+        add_place(writer, text, rows, texts, place, rows.first + number)?;
     }
     Ok(())
 }
@@ -438,15 +366,7 @@ fn write_rows_by<R: Threads + Wait + Sync, W: Sink>(
     ensures failed { W.has_failed writer.new ≡ is_err result }
 {
     let mut text = ReportWriter::new(spelling.app);
-    write_side_by_side(
-        rt,
-        spelling,
-        &mut lanes.own,
-        &mut lanes.others,
-        &mut lanes.desks,
-        writer,
-        &mut text,
-    )?;
+    write_side_by_side(rt, spelling, lanes, writer, &mut text)?;
     write_totals(writer, &mut text, spelling.rows)
 }
 

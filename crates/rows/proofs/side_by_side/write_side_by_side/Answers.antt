@@ -4,15 +4,18 @@ use Rattle.rows.proofs.side_by_side.write_side_by_side.Goals as goal
 
 pub compare_all-requires : goal.compare_all-requires
 compare_all-requires g c =
-    let own = c.args.own.now in
-    let others = c.args.others.now in
-    let after = c.write_beside-written in
-    pairs_both own after.new.own others after.new.others after.ensures.ring after.ensures.pairs
-    after.new.desks (after.ensures.desks.pairs (own ∷ others) c.requires.pairs)
+    let old = c.args.lanes.now in
+    let written = c.write_beside-written in
+    let new = written.new.lanes in
+    rw (c.deref_mut.ensures.value, c.deref_mut-2.ensures.value)
+    (pairs_both old.own new.own old.others.items new.others.items written.ensures.ring written.ensures.pairs
+    new.desks.items (written.ensures.desks.pairs (old.own ∷ old.others.items) c.requires.pairs))
 
 pub returns-clause-text : goal.returns-clause-text
 returns-clause-text g c =
     let written = c.write_beside-written.ensures in
     let spelling = c.args.spelling.now in
-    let sent = fresh_sent spelling (c.args.own.now ∷ c.args.others.now) c.requires.fresh in
-    written.text (c.compare_all.ensures spelling (written.own sent.0, written.others sent.1))
+    let lanes = c.args.lanes.now in
+    let sent = fresh_sent spelling (lanes.own ∷ lanes.others.items) c.requires.fresh in
+    let compared = rw (c.deref_mut.ensures.value, c.deref_mut-2.ensures.value) at c.compare_all.ensures spelling in
+    written.text (compared (written.own sent.0, written.others sent.1))

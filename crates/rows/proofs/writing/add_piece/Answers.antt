@@ -1,14 +1,11 @@
-use Rattle.std.proofs.Common.{◌≡◌, ◌≤◌, ◌∙◌, ◌+◌, ◌-◌, ◌++◌, List, length, slice_get, Some, sym, ap, subst, arith}
+use Rattle.std.proofs.Common.{◌≡◌, ◌≤◌, ◌∙◌, ◌+◌, ◌-◌, ◌++◌, List, sym, subst, arith}
 use Rattle.std.proofs.lemmas.Result.{MatchResult-from_err}
 use Rattle.byte_io.specs.Bytes.{Sent, SentFront}
 use Rattle.model.specs.Campaign.{Row}
 use Rattle.report.specs.Views.{shown_rows}
-use Rattle.rows.specs.declared.campaign_report.Rows.{Rows}
-use Rattle.rows.specs.declared.rows.Part.{Part}
-use Rattle.rows.specs.Report.{whole, rows_in}
+use Rattle.rows.specs.Report.{whole}
 use Rattle.rows.specs.Pieces.{some_of}
 use Rattle.rows.proofs.Pieces.{some_sent, some_stopped}
-use Rattle.rows.proofs.Totalling.{got, parts_kept, rows_there, same_part, within_list}
 use Rattle.rows.proofs.writing.add_piece.Goals as goal
 
 pub loop-cursor-preserved : goal.loop-cursor-preserved
@@ -20,17 +17,11 @@ loop-cursor-preserved g c =
     let piece = c.args.piece in
     let place = c.take-place.result in
     let number = c.loop-cursor.cursor.number in
-    let part = c.index-part.result.now in
-    let there =
-    got rows.parts.items place.part part
-    (within_list rows.parts.items place.part e.place.part e.place.at_part) c.index-part.ensures in
-    let same : rows_in rows.base part place.first place.count ≡ some_of (whole rows) number place.count =
-    sym (rows_there rows.base rows.parts.items place part there) ∙ e.rows in
     let text =
     subst (λ (rs : List Row).
     Sent (g.W.Sink.held c.loop-cursor.writer) (g.W.Sink.held c.add_place.new.writer)
     (c.loop-cursor.text.page ++ shown_rows app rows.view (rows.first + number) rs) c.add_place.new.text.page)
-    same (rw i.app at c.in_ok-add_place.ensures.text) in
+    e.rows (rw i.app at c.in_ok-add_place.ensures.text) in
     let low = i.low in
     let high : number + place.count ≤ piece.from.number + piece.count = omega (arith, e.few, c.loop-cursor-test.true) in
     record {
@@ -53,17 +44,11 @@ returns-in_err-add_place-clause-text g c =
     let piece = c.args.piece in
     let place = c.take-place.result in
     let number = c.loop-cursor.cursor.number in
-    let part = c.index-part.result.now in
-    let there =
-    got rows.parts.items place.part part
-    (within_list rows.parts.items place.part e.place.part e.place.at_part) c.index-part.ensures in
-    let same : rows_in rows.base part place.first place.count ≡ some_of (whole rows) number place.count =
-    sym (rows_there rows.base rows.parts.items place part there) ∙ e.rows in
     let text =
     subst (λ (rs : List Row).
     SentFront (g.W.Sink.held c.loop-cursor.writer) (g.W.Sink.held c.add_place.new.writer)
     (c.loop-cursor.text.page ++ shown_rows app rows.view (rows.first + number) rs))
-    same (rw i.app at c.in_err-add_place.ensures.text) in
+    e.rows (rw i.app at c.in_err-add_place.ensures.text) in
     let high : number + place.count ≤ piece.from.number + piece.count = omega (arith, e.few, c.loop-cursor-test.true) in
     MatchResult-from_err c.from_residual.result _ _ c.from_residual.ensures.0
     (λ y.
@@ -80,35 +65,17 @@ take-place-requires g c =
       some = omega (arith, c.loop-cursor-test.true);
     }
 
-pub index-part-requires : goal.index-part-requires
-index-part-requires g c =
-    let e = c.take-place.ensures in
-    omega (
-      arith,
-      c.args.rows.now.parts.ok,
-      within_list c.args.rows.now.parts.items c.take-place.result.part e.place.part e.place.at_part,
-    )
-
 pub add_place-requires : goal.add_place-requires
 add_place-requires g c =
     let i = c.loop-cursor.invariant in
     let e = c.take-place.ensures in
-    let rows = c.args.rows.now in
-    let place = c.take-place.result in
-    let part = c.index-part.result.now in
-    let there =
-    got rows.parts.items place.part part
-    (within_list rows.parts.items place.part e.place.part e.place.at_part) c.index-part.ensures in
     record {
       working = i.working;
       app = c.requires.app ∙ sym i.app;
-      base = ap (λ (rs : Rows). rs.base) c.requires.rows;
-      part = subst (λ (rs : Rows). slice_get rs.parts.items place.part ≡ Some part) (sym c.requires.rows) there;
+      rows = c.requires.rows;
+      sound = c.requires.sound;
+      place = e.place;
       few = omega (arith, e.few, c.loop-cursor-test.true, c.requires.piece.within, c.requires.sound.few);
-      kept = parts_kept rows.base rows.parts.items place.part part there c.requires.sound.kept;
-      within =
-          subst (λ (p : Part). place.first + place.count ≤ length p.kept)
-          (same_part e.place.part part (sym e.place.at_part ∙ there)) e.place.within;
     }
 
 pub returns-clause-text : goal.returns-clause-text

@@ -9,8 +9,8 @@ invariant-loop-index g l = record {
   app : l.text.app ≡ l.fn.text.app;
   sent : Sent (g.W.Sink.held l.fn.writer) (g.W.Sink.held l.writer)
       (l.fn.text.page
-      ++ shown_rows l.fn.text.app l.view l.number
-      (rows_of l.base (store_of l.part) (take l.index (take l.count (drop l.first l.part.kept)))))
+      ++ shown_rows l.fn.text.app l.rows.view l.number
+      (rows_of l.rows.base (store_of l.part) (take l.index (take l.place.count (drop l.place.first l.part.kept)))))
       l.text.page;
   working : g.W.Sink.has_failed l.writer ≡ false;
 }

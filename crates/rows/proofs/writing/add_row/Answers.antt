@@ -1,29 +1,23 @@
-use Rattle.std.specs.Prelude.{nat_lt}
 use Rattle.std.specs.List.{flat_map}
-use Rattle.std.proofs.Common.{◌++◌, List, sym, subst, take}
+use Rattle.std.proofs.Common.{◌++◌, take}
 use Rattle.byte_io.proofs.Sending.{Adds_stopped, Adds_two}
-use Rattle.model.specs.declared.event.Event.{Event}
 use Rattle.report.specs.Text.{event_text, head_text}
 use Rattle.report.specs.declared.title.Title.TheVariants as title
-use Rattle.rows.specs.Links.{told_at, AreLegs}
+use Rattle.rows.specs.Links.{told_at}
 use Rattle.rows.specs.Report.{store_of}
 use Rattle.rows.proofs.Telling.{row_parts}
 use Rattle.rows.proofs.writing.add_row.Goals as goal
-
-pub add_told-requires-clause-legs : goal.add_told-requires-clause-legs
-add_told-requires-clause-legs g c =
-    subst (λ (events : List Event). AreLegs events (store_of c.args.part.now)) (sym c.requires.base) c.requires.legs
 
 pub returns-in_err-begin_row-clause-text : goal.returns-in_err-begin_row-clause-text
 returns-in_err-begin_row-clause-text g c =
     let app = c.args.text.now.app in
     let f = event_text app in
     let row = c.args.row.now in
-    let base = c.args.base.now in
-    let told = told_at base.events (store_of c.args.part.now) row.told in
+    let base = c.args.events.now.base.now in
+    let told = told_at base.events (store_of c.args.events.now.part.now) row.told in
     let head =
     head_text app (title.Row c.args.number row.point row.reached) row.steps row.ticks row.end in
-    let first = rw (c.title_of-title.ensures, c.ending_of.ensures, c.requires.base) at c.in_err-begin_row.ensures.text in
+    let first = rw (c.title_of-title.ensures, c.ending_of.ensures, c.requires.events.base_is) at c.in_err-begin_row.ensures.text in
     rw (row_parts f head (take row.shared base.events) told)
     (Adds_stopped _ _ _ (head ++ flat_map f (take row.shared base.events)) (flat_map f told) _ _ c.from_residual.ensures.0 first)
 
@@ -32,11 +26,11 @@ returns-clause-text g c =
     let app = c.args.text.now.app in
     let f = event_text app in
     let row = c.args.row.now in
-    let base = c.args.base.now in
-    let told = told_at base.events (store_of c.args.part.now) row.told in
+    let base = c.args.events.now.base.now in
+    let told = told_at base.events (store_of c.args.events.now.part.now) row.told in
     let head =
     head_text app (title.Row c.args.number row.point row.reached) row.steps row.ticks row.end in
-    let first = rw (c.title_of-title.ensures, c.ending_of.ensures, c.requires.base) at c.in_ok-begin_row.ensures.text in
-    let second = rw (c.in_ok-begin_row.ensures.app, c.requires.base) at c.add_told.ensures.text in
+    let first = rw (c.title_of-title.ensures, c.ending_of.ensures, c.requires.events.base_is) at c.in_ok-begin_row.ensures.text in
+    let second = rw c.in_ok-begin_row.ensures.app at c.add_told.ensures.text in
     rw (row_parts f head (take row.shared base.events) told)
     (Adds_two _ _ _ _ (head ++ flat_map f (take row.shared base.events)) _ (flat_map f told) _ _ first second)

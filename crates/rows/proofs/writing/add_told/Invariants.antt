@@ -1,6 +1,5 @@
 use Rattle.std.proofs.Common.{◌≡◌, ◌++◌, false}
 use Rattle.std.specs.List.{flat_map}
-use Rattle.machine.specs.Logged.{all_of}
 use Rattle.byte_io.specs.Bytes.{Sent}
 use Rattle.report.specs.Text.{event_text}
 use Rattle.rows.specs.Links.{told_at, height, IsLink}
@@ -11,11 +10,11 @@ use Rattle.rows.proofs.writing.add_told.Given as goal
 abbrev pub invariant-legs : goal.invariant-legs
 invariant-legs g l = record {
   app : l.text.app ≡ l.fn.text.app;
-  trail : l.trail ≡ all_of l.part.trail;
-  there : IsLink l.events.events (store_of l.part) l.link;
+  there : IsLink l.events.base.now.events (store_of l.events.part.now) l.link;
   sent : Sent (g.W.Sink.held l.fn.writer) (g.W.Sink.held l.writer)
-      (l.fn.text.page ++ flat_map (event_text l.fn.text.app) (told_at l.events.events (store_of l.part) l.fn.first))
-      (l.text.page ++ flat_map (event_text l.fn.text.app) (told_at l.events.events (store_of l.part) l.link));
+      (l.fn.text.page
+      ++ flat_map (event_text l.fn.text.app) (told_at l.events.base.now.events (store_of l.events.part.now) l.fn.first))
+      (l.text.page ++ flat_map (event_text l.fn.text.app) (told_at l.events.base.now.events (store_of l.events.part.now) l.link));
   working : g.W.Sink.has_failed l.writer ≡ false;
 }
 
