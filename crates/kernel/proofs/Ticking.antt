@@ -403,4 +403,3 @@ module _ (app : Application) (limits : Limits) (count : ℕ) (k : Machine) (q : 
       let w : WorksOn app (suc count) k (Some task) = subst (WorksOn app (suc count) k) e q.works in
       let fits = w.1 in
       omega arith
-

@@ -600,4 +600,3 @@ spells_empty L N next prev firsts lasts next_length prev_length firsts_length la
       distinct = λ l hl. subst EachOnce (sym (nil l)) tt;
       listed = λ n l at_list. absurd (none-some l (sym (get_or-replicate N n None) ∙ at_list));
     }
-

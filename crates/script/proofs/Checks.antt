@@ -22,4 +22,3 @@ pub needed : {X : Type 0} (fault : Fault) (o : Option X) (check : X → Option F
     → (x : X) × (o ≡ Some x) × (check x ≡ None)
 needed fault None check none = cc
 needed fault (Some x) check none = (x, refl, none)
-

@@ -108,4 +108,3 @@ module _ (app : Application) (limits : Limits) where
         one_joins (slice_get stops number) (are number)
 
 -- ---- a stop that is looked at
-

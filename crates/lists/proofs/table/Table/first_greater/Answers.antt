@@ -10,7 +10,7 @@ loop-at-init g c =
     let h = c.self.invariant.rings in
     let entries =
     entries_of (lists_of g.row.N (links_of g.row.N c.self.inside.rings.next) c.self.inside.rings.values
-      (ends_of g.row.N c.self.inside.rings.next))
+    (ends_of g.row.N c.self.inside.rings.next))
     c.args.list.number in
     let start : Search c.args.value entries (node_at g.row.N (get_or c.self.inside.rings.next (g.row.N + c.args.list.number) 0)) =
     record { before = []; rest = entries; whole = refl; here = ring_first h c.args.list.number c.requires; same = refl } in
@@ -41,7 +41,7 @@ pub loop-at-preserved : goal.loop-at-preserved
 loop-at-preserved g c =
     let entries =
     entries_of (lists_of g.row.N (links_of g.row.N c.self.inside.rings.next) c.self.inside.rings.values
-      (ends_of g.row.N c.self.inside.rings.next))
+    (ends_of g.row.N c.self.inside.rings.next))
     c.args.list.number in
     let is = node-below g.row.N c.loop-at.at c.loop-at-test.true in
     let at =

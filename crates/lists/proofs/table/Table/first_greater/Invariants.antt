@@ -8,10 +8,10 @@ abbrev pub invariant-loop-at : goal.invariant-loop-at
 invariant-loop-at g l =
     Search l.value
     (entries_of (lists_of g.row.N (links_of g.row.N l.self-inside.rings.next) l.self-inside.rings.values
-      (ends_of g.row.N l.self-inside.rings.next))
+    (ends_of g.row.N l.self-inside.rings.next))
     l.fn.list.number)
     (node_at g.row.N l.at)
 
 abbrev pub decreases-loop-at : goal.decreases-loop-at
 decreases-loop-at g l = length (walk (links_of g.row.N l.self-inside.rings.next) l.self-inside.rings.values g.row.N
-  (node_at g.row.N l.at))
+    (node_at g.row.N l.at))

@@ -12,7 +12,7 @@ loop-at-init g c =
     let entries =
     entries_of
     (lists_of g.row.N (links_of g.row.N c.self.inside.rings.next) c.self.inside.rings.values
-      (ends_of g.row.N c.self.inside.rings.next)) l in
+    (ends_of g.row.N c.self.inside.rings.next)) l in
     let room : g.row.N + l < length c.self.inside.rings.prev =
     subst (λ (k : ℕ). g.row.N + l < k) (sym h.prev_length) (within h l (g.row.N + l) c.requires.list (λ past. refl)) in
     let start : SearchBack c.args.value entries
@@ -45,7 +45,7 @@ loop-at-smaller g c =
     let longer =
     subst (λ (o : Option ℕ).
     length (walk links c.self.inside.rings.values N (node_at N c.loop-at.after)) < length
-      (walk links c.self.inside.rings.values N o))
+    (walk links c.self.inside.rings.values N o))
     (sym is) at.longer in
     let few = subst (λ (o : Option ℕ). length (walk links c.self.inside.rings.values N o) ≤ N) (sym is) at.few in
     omega (arith, longer, few)

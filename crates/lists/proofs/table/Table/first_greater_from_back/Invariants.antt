@@ -8,7 +8,7 @@ abbrev pub invariant-loop-at : goal.invariant-loop-at
 invariant-loop-at g l =
     SearchBack l.value
     (entries_of (lists_of g.row.N (links_of g.row.N l.self-inside.rings.next) l.self-inside.rings.values
-      (ends_of g.row.N l.self-inside.rings.next))
+    (ends_of g.row.N l.self-inside.rings.next))
     l.fn.list.number)
     (node_at g.row.N l.at) (node_at g.row.N l.after)
     × (g.row.N ≤ l.after → l.after ≡ g.row.N + l.fn.list.number)

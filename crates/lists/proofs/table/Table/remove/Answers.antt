@@ -71,7 +71,7 @@ pub returns-else-is_some-clause-removed : goal.returns-else-is_some-clause-remov
 returns-else-is_some-clause-removed g c =
     let h = ring_seen c.self.invariant.rings c.self.view_is in
     sym (without_unplaced h.spells c.args.node.number (no_list
-      (get_or c.self.inside.rings.place c.args.node.number None) c.is_some.result
+    (get_or c.self.inside.rings.place c.args.node.number None) c.is_some.result
     (sym (ap is_some (read_link _ _ _ h.spells.place_length c.requires)) ∙ sym c.is_some.ensures) c.if-is_some.false))
 
 pub returns-else-is_some-clause-sound : goal.returns-else-is_some-clause-sound

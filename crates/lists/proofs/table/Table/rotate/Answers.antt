@@ -8,14 +8,14 @@ pub bounds-self-inside-last : goal.bounds-self-inside-last
 bounds-self-inside-last g c =
     let h = ring_seen c.self.invariant.rings c.self.view_is in
     let first : get_or c.self.inside.rings.next (g.row.N + c.args.list.number) 0 < g.row.N = rw
-      c.end-end.ensures at c.if-first.true in
+    c.end-end.ensures at c.if-first.true in
     rw c.end-end.ensures (last_within h c.args.list.number c.requires _ refl first _ refl)
 
 pub invariant_of-self : goal.invariant_of-self
 invariant_of-self g c =
     let h = ring_seen c.self.invariant.rings c.self.view_is in
     let first : get_or c.self.inside.rings.next (g.row.N + c.args.list.number) 0 < g.row.N = rw
-      c.end-end.ensures at c.if-first.true in
+    c.end-end.ensures at c.if-first.true in
     rw c.end-end.ensures (ring_table (ring_rotated h c.args.list.number c.requires _ refl first _ refl)
     c.self.invariant.lists_fit c.self.invariant.nodes_fit)
 
@@ -23,14 +23,14 @@ pub returns-then-second-clause-rotated : goal.returns-then-second-clause-rotated
 returns-then-second-clause-rotated g c =
     let h = ring_seen c.self.invariant.rings c.self.view_is in
     let first : get_or c.self.inside.rings.next (g.row.N + c.args.list.number) 0 < g.row.N = rw
-      c.end-end.ensures at c.if-first.true in
+    c.end-end.ensures at c.if-first.true in
     rw c.end-end.ensures (ring_lists (ring_rotated h c.args.list.number c.requires _ refl first _ refl))
 
 pub returns-then-second-clause-second : goal.returns-then-second-clause-second
 returns-then-second-clause-second g c =
     let h = ring_seen c.self.invariant.rings c.self.view_is in
     let first : get_or c.self.inside.rings.next (g.row.N + c.args.list.number) 0 < g.row.N = rw
-      c.end-end.ensures at c.if-first.true in
+    c.end-end.ensures at c.if-first.true in
     let second : get_or c.self.inside.rings.next (get_or c.self.inside.rings.next (g.row.N + c.args.list.number) 0) 0 < g.row.N =
     rw c.end-end.ensures at c.if-second.true in
     rw c.end-end.ensures (somebody_second h c.args.list.number c.requires _ refl first second)
@@ -39,14 +39,14 @@ pub returns-then-second-clause-sound : goal.returns-then-second-clause-sound
 returns-then-second-clause-sound g c =
     let h = ring_seen c.self.invariant.rings c.self.view_is in
     let first : get_or c.self.inside.rings.next (g.row.N + c.args.list.number) 0 < g.row.N = rw
-      c.end-end.ensures at c.if-first.true in
+    c.end-end.ensures at c.if-first.true in
     rw c.end-end.ensures (ring_sound (ring_rotated h c.args.list.number c.requires _ refl first _ refl))
 
 pub returns-else-second-clause-rotated : goal.returns-else-second-clause-rotated
 returns-else-second-clause-rotated g c =
     let h = ring_seen c.self.invariant.rings c.self.view_is in
     let first : get_or c.self.inside.rings.next (g.row.N + c.args.list.number) 0 < g.row.N = rw
-      c.end-end.ensures at c.if-first.true in
+    c.end-end.ensures at c.if-first.true in
     let second : g.row.N ≤ get_or c.self.inside.rings.next (get_or c.self.inside.rings.next (g.row.N + c.args.list.number) 0) 0 =
     rw c.end-end.ensures at c.if-second.false in
     (nobody_second h c.args.list.number c.requires _ refl first second).same
@@ -55,7 +55,7 @@ pub returns-else-second-clause-second : goal.returns-else-second-clause-second
 returns-else-second-clause-second g c =
     let h = ring_seen c.self.invariant.rings c.self.view_is in
     let first : get_or c.self.inside.rings.next (g.row.N + c.args.list.number) 0 < g.row.N = rw
-      c.end-end.ensures at c.if-first.true in
+    c.end-end.ensures at c.if-first.true in
     let second : g.row.N ≤ get_or c.self.inside.rings.next (get_or c.self.inside.rings.next (g.row.N + c.args.list.number) 0) 0 =
     rw c.end-end.ensures at c.if-second.false in
     (nobody_second h c.args.list.number c.requires _ refl first second).none
@@ -69,14 +69,14 @@ pub returns-else-first-clause-rotated : goal.returns-else-first-clause-rotated
 returns-else-first-clause-rotated g c =
     let h = ring_seen c.self.invariant.rings c.self.view_is in
     let first : g.row.N ≤ get_or c.self.inside.rings.next (g.row.N + c.args.list.number) 0 = rw
-      c.end-end.ensures at c.if-first.false in
+    c.end-end.ensures at c.if-first.false in
     (nobody_first h c.args.list.number c.requires first).same
 
 pub returns-else-first-clause-second : goal.returns-else-first-clause-second
 returns-else-first-clause-second g c =
     let h = ring_seen c.self.invariant.rings c.self.view_is in
     let first : g.row.N ≤ get_or c.self.inside.rings.next (g.row.N + c.args.list.number) 0 = rw
-      c.end-end.ensures at c.if-first.false in
+    c.end-end.ensures at c.if-first.false in
     (nobody_first h c.args.list.number c.requires first).none
 
 pub returns-else-first-clause-sound : goal.returns-else-first-clause-sound
