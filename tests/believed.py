@@ -18,7 +18,7 @@ from definitions import ROOT, Name, crate_of, definitions_of, is_definition_line
 KERNEL = "crates/model/specs/Run.antt"
 SERVING = "crates/campaign/specs/Campaigns.antt"
 SERVE = ("crates/campaign/src/serving.rt", "serve")
-OBEY = ("crates/jobs/src/obeying.rt", "obey")
+OBEY = ("crates/jobs/src/command_line.rt", "obey")
 
 
 class Count(NamedTuple):

@@ -12,8 +12,8 @@ use Rattle.byte_io.specs.declared.read.ReadFault.{ReadFault}
 use Rattle.byte_io.specs.declared.read.ReadFault.TheVariants as read
 use Rattle.requests.specs.declared.job.Job.{Job}
 use Rattle.requests.specs.declared.job.Job.TheVariants.{Run, RunUnpaired, Campaign, Explore}
-use Rattle.jobs.specs.declared.acting.JobFault.{JobFault}
-use Rattle.jobs.specs.declared.acting.JobFault.TheVariants.{Serve, TooLarge, Unpaired}
+use Rattle.jobs.specs.declared.run_job.JobFault.{JobFault}
+use Rattle.jobs.specs.declared.run_job.JobFault.TheVariants.{Serve, TooLarge, Unpaired}
 use Rattle.jobs.proofs.EndStates.{end_state_file_fault}
 use Rattle.jobs.proofs.Explorations.{exploration_file_fault}
 use Rattle.jobs.specs.Acting.{Served, Does, DoesOverFile, FailsToRead, LacksFile, OpensAndDoes, ReadsFor}

@@ -20,8 +20,8 @@ use Rattle.jobs.specs.Passing.{IsServed}
 use Rattle.requests.specs.declared.job.Job.{Job}
 use Rattle.requests.specs.declared.job.Job.TheVariants.{Run, RunUnpaired, Campaign, Explore}
 use Rattle.requests.specs.Jobs.{file_of, handler_of, is_unpaired}
-use Rattle.jobs.specs.declared.acting.JobFault.{JobFault}
-use Rattle.jobs.specs.declared.acting.JobFault.TheVariants.{Unpaired, TooLarge, Serve}
+use Rattle.jobs.specs.declared.run_job.JobFault.{JobFault}
+use Rattle.jobs.specs.declared.run_job.JobFault.TheVariants.{Unpaired, TooLarge, Serve}
 
 -- ---- jobs
 

@@ -6,8 +6,8 @@ use Rattle.clap.specs.Words.{IsAmong, subcommand_of}
 use Rattle.clap.specs.declared.error.kind.ErrorKind.{ErrorKind}
 use Rattle.clap.specs.declared.error.kind.ErrorKind.TheVariants.{DisplayHelp, DisplayVersion, OutOfMemory}
 use Rattle.requests.specs.declared.job.Job.{Job}
-use Rattle.jobs.specs.declared.acting.JobFault.{JobFault}
-use Rattle.jobs.specs.declared.acting.JobFault.TheVariants.{Serve}
+use Rattle.jobs.specs.declared.run_job.JobFault.{JobFault}
+use Rattle.jobs.specs.declared.run_job.JobFault.TheVariants.{Serve}
 use Rattle.campaign.specs.declared.file.ServeFault.TheVariants.{Memory, Write}
 use Rattle.jobs.specs.Acting.{OpensAndDoes, Tells, fault_line, status_of, told}
 use Rattle.requests.specs.Words.{IsJobOf, faults_of, rtosim_app}

@@ -6,9 +6,9 @@ ghost use Rattle.byte_io.specs.Line.{piece_text};
 ghost use Rattle.byte_io.specs.Shown.{shown_name};
 ghost use Rattle.script.specs.Faults.{fault_name, place_words, word_text};
 ghost use Rattle.jobs.specs.Acting.{fault_pieces, load_pieces, Tells, fault_line};
-ghost use Rattle.jobs.specs.declared.acting.JobFault.TheVariants as job_fault;
+ghost use Rattle.jobs.specs.declared.run_job.JobFault.TheVariants as job_fault;
 
-use crate::acting::JobFault;
+use crate::run_job::JobFault;
 use arrayvec::ArrayVec;
 use byte_io::{Piece, Sink, write_line};
 use campaign::ServeFault;

@@ -2,13 +2,13 @@
 //! the status.
 #![tactic(auto)]
 
-mod acting;
+mod command_line;
 mod end_state;
 mod exploring;
 mod fault_line;
-mod obeying;
+mod run_job;
 
-pub use acting::{JobFault, act, conclude, open_and_act, refuse, status_of};
+pub use command_line::{conclude_error, obey};
 pub use fault_line::tell;
-pub use obeying::{conclude_error, obey};
 pub use requests::{Job, MostInjections, job_named};
+pub use run_job::{JobFault, act, conclude, open_and_act, refuse, status_of};

@@ -6,8 +6,8 @@ use Rattle.model.specs.declared.op.Op.TheVariants.{MessagesWaiting, SpacesAvaila
 use Rattle.model.specs.Application.{Application, op_at}
 use Rattle.machine.specs.declared.machine.Machine.{Machine}
 use Rattle.machine.specs.StandsFor.{progress_in}
-use Rattle.kernel.specs.declared.acting.Following.{Following}
-use Rattle.kernel.specs.declared.acting.Following.TheVariants.{NextOp, Answered}
+use Rattle.kernel.specs.declared.dispatch.Following.{Following}
+use Rattle.kernel.specs.declared.dispatch.Following.TheVariants.{NextOp, Answered}
 
 -- an op that may change nothing but where its task is in its script, and what the task keeps: one of the script alone, or a call
 -- that answers and wakes nobody, or one on values

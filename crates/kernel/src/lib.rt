@@ -1,15 +1,15 @@
 //! The kernel: its steps, and whole runs.
 #![tactic(auto)]
 
-mod acting;
 mod bits;
 mod commands;
+mod dispatch;
 mod end_state;
+mod handler_flow;
 mod handlers;
 mod idle;
 mod in_call;
 mod kernel;
-mod looking;
 mod over;
 mod quiet;
 mod rests;

@@ -4,8 +4,8 @@ ghost use Rattle.machine.specs.Logged.{all_of};
 ghost use Rattle.kernel.specs.Along.{IsFree, GoesOn, NoneIsOver};
 ghost use Rattle.kernel.specs.InCall.{IsLeaving};
 
-use crate::acting::Following;
 use crate::commands::pass_command;
+use crate::dispatch::Following;
 use crate::in_call::{deciding, pass_call, pass_leave};
 use crate::quiet::{may_be_quiet, pass_quiet_steps, ticks_to_work};
 use crate::suspended::go_on_while_suspended;

@@ -18,12 +18,12 @@ ghost use Rattle.machine.specs.Can.{IsUnderWay, NonePends};
 ghost use Rattle.kernel.specs.Can.{CanAct, CanStep};
 ghost use Rattle.kernel.specs.InScript.{IsAt, IsAtNone, is_amid};
 ghost use Rattle.kernel.specs.Bits.{IsLettingGo};
-ghost use Rattle.kernel.specs.declared.acting.Following.TheVariants as following;
+ghost use Rattle.kernel.specs.declared.dispatch.Following.TheVariants as following;
 ghost use Rattle.kernel.specs.Along.{IsFree, GoesTo, GoesOn, IsGoing, GoesFurther};
 ghost use Rattle.kernel.specs.Rows.{events_from, Extends};
 
-use crate::acting::{Following, act};
 use crate::bits::pass_held;
+use crate::dispatch::{Following, act};
 use crate::handlers::come_before;
 use crate::idle::idle;
 use crate::kernel::Kernel;
