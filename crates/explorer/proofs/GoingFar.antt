@@ -27,16 +27,6 @@ pub none_more : (plan : List Injection) (n : ℕ) → AllByRecursion (λ (i : In
     → (m : ℕ) → n ≤ m → injected plan m ≡ []
 none_more plan n below m l = none_from n m plan below l
 
--- It is there already.
-pub stays : (app : Application) (limits : Limits) (k : Machine) → GoesFar app limits k.steps k k None
-stays app limits k = record {
-  on = omega arith;
-  far = omega arith;
-  way = λ plan past. past.way;
-  there = λ none. refl;
-  end = λ e some. absurd (let contrary : None ≡ Some e = some in cc);
-}
-
 module _ (app : Application) (limits : Limits) (until : ℕ) (old new : Machine) (count : ℕ) (least : List Injection)
     (ending : Option RestEnding) (far : GoesFar app limits until old new ending) where
   all_past : (more : Plans) → AreAt app limits old.steps old count least more → AllByRecursion (IsPast app limits old) more

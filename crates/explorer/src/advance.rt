@@ -16,8 +16,8 @@ use model::{App, HandlerId, Limits, Memory, Meter};
 use std::alloc::Global;
 
 // Puts this many plans, the least of them this one, where they go on from this kernel. Those with
-// injections left go to the live kernels, even if they have come to their end: that is found when
-// they are passed. The others go on up to the end of the block, and then to the spent ones.
+// injections left go to the live kernels. The others go on up to the end of the block, and then to
+// the spent ones.
 fn keep(
     alloc: Global,
     app: &App,
@@ -37,7 +37,19 @@ fn keep(
     ensures count { OnOk result (number_in frontier.new ≡ number_in frontier.old + count) }
 {
     if least.len() + 1 < levels {
-        frontier.live.add(alloc, app, kernel, count, least)
+        let here = kernel.steps();
+        settle(
+            alloc,
+            app,
+            limits,
+            here,
+            count,
+            least,
+            kernel,
+            reported,
+            &mut frontier.live,
+            &mut frontier.findings,
+        )
     } else {
         settle(
             alloc,
