@@ -25,7 +25,7 @@ use Rattle.explorer.specs.Layers.{AreAt, AreOf, GoesOn, HasWay, followed, nows_o
 use Rattle.explorer.specs.Tallies.{TalliesMore, ending_in}
 use Rattle.explorer.proofs.Choosing.{flat_more, read_level}
 use Rattle.explorer.proofs.Holding.{holds_reordered, holds_same, kept_found, kept_live, kept_spent, under_limit}
-use Rattle.explorer.proofs.Reorderings.{behind_all}
+use Rattle.explorer.proofs.Reorderings.{behind_all, flat_reordered, turned_round}
 use Rattle.explorer.proofs.Rests.{IsOver, all_going, all_over}
 
 -- ---- choice by choice
@@ -53,6 +53,20 @@ module _ (app : Application) (limits : Limits) (levels until : ℕ) (k : Machine
       → TakesBy app limits levels until k count least nows a b
       → TakesBy app limits levels until k count least others a b
   takes_as nows others a b e g = subst (λ (ns : List (List ℕ)). TakesBy app limits levels until k count least ns a b) e g
+
+  -- in the other order
+  pub takes_turned : (first then : List (List ℕ)) (a b : Frontier)
+      → TakesBy app limits levels until k count least (first ++ then) a b
+      → TakesBy app limits levels until k count least (then ++ first) a b
+  takes_turned first then a b g handlers n more total of h =
+      let rests = λ (nows : List (List ℕ)).
+      rests_of app limits handlers levels (n + 1) (flat_map (followed app limits n more) nows) in
+      holds_reordered app limits handlers levels (n + 1) until b (total ++ rests (first ++ then)) (total ++ rests (then ++ first))
+      (behind_all total (rests (then ++ first)) (rests (first ++ then))
+      (flat_reordered _ (flat_map (followed app limits n more) (then ++ first))
+      (flat_map (followed app limits n more) (first ++ then))
+      (flat_reordered (followed app limits n more) (then ++ first) (first ++ then) (turned_round then first))))
+      (g handlers n more total of h)
 
   -- what comes of a kernel after one of them
   pub takes_next : (next : Machine) (longer : List Injection) (now : List ℕ) (old new : Frontier)
@@ -305,21 +319,21 @@ module _ (handlers : List ℕ) (levels : List (List (List ℕ))) (are : AreLevel
   pub others_few : AllByRecursion (λ level. AllByRecursion (λ now. length least + length now ≤ 3) level) (drop 1 part)
   others_few = all_few 1 (drop 1 part) (λ i level l e. (e ∙ get_or-drop 1 part i level, omega (arith, l, length-drop 1 part)))
 
-  -- how many fit of the first, and of the others after it
-  pub first_room : (base count most : ℕ) → base + length (nows_of handlers (length levels) least) * count < most
-      → base + count < most
-  first_room base count most room =
+  -- how many fit after them, and how many of them
+  pub first_room : (now base count most : ℕ) → now ≤ base + length (flat (drop 1 part)) * count
+      → base + length (nows_of handlers (length levels) least) * count < most → now + count < most
+  first_room now base count most e room =
       let long = ap length first_flat in
       let all : 1 + length (flat (drop 1 part)) ≡ length (nows_of handlers (length levels) least) = omega (arith, long) in
-      let sum = room_of 0 1 (length (nows_of handlers (length levels) least)) count base most (omega (arith, all)) room in
-      omega (arith, sum)
-
-  pub others_room : (now base count most : ℕ) → now ≤ base + count
-      → base + length (nows_of handlers (length levels) least) * count < most
-      → now + length (flat (drop 1 part)) * count < most
-  others_room now base count most e room =
-      let long = ap length first_flat in
-      let all : 1 + length (flat (drop 1 part)) ≡ length (nows_of handlers (length levels) least) = omega (arith, long) in
-      let sum = room_of 1 (length (flat (drop 1 part))) (length (nows_of handlers (length levels) least)) count base most
+      let sum = room_of (length (flat (drop 1 part))) 1 (length (nows_of handlers (length levels) least)) count base most
       (omega (arith, all)) room in
       omega (arith, sum, e)
+
+  pub others_room : (base count most : ℕ) → base + length (nows_of handlers (length levels) least) * count < most
+      → base + length (flat (drop 1 part)) * count < most
+  others_room base count most room =
+      let long = ap length first_flat in
+      let all : 1 + length (flat (drop 1 part)) ≡ length (nows_of handlers (length levels) least) = omega (arith, long) in
+      let sum = room_of (length (flat (drop 1 part))) 0 (length (nows_of handlers (length levels) least)) count base most
+      (omega (arith, all)) room in
+      omega (arith, sum)

@@ -11,7 +11,7 @@ use crate::frontier::Frontier;
 use crate::layer::{Layer, Node};
 use crate::placement::Placement;
 use crate::settling::{Reported, Stepper, settle};
-use kernel::{Kernel, Snapshot};
+use kernel::Kernel;
 use model::{App, HandlerId, Limits, Memory, Meter};
 use std::alloc::Global;
 
@@ -68,8 +68,6 @@ fn keep(
 
 // This many plans, the least of them this one, go on from a kernel with these handlers before the
 // step, if each can come there.
-// Inlined in both places it takes up twice as much of the processor's instruction cache.
-#[inline(never)]
 fn step_by(
     alloc: Global,
     app: &App,
@@ -105,7 +103,7 @@ fn step_by(
     )
 }
 
-// From the kernel of a snapshot the plans go on with each of these choices, of one number of handlers.
+// From the stepper's base the plans go on with each of these choices, of one number of handlers.
 fn step_by_each(
     alloc: Global,
     app: &App,
@@ -115,20 +113,20 @@ fn step_by_each(
     count: u128,
     least: &Placement,
     level: &[Choice],
-    base: &Snapshot,
     stepper: &mut Stepper,
     frontier: &mut Frontier,
 ) -> Result<(), Memory>
-    requires way { HasWay app.now limits.now base.now least.now }
-    requires goes { GoesOn app.now limits.now base.now }
+    requires way { HasWay app.now limits.now stepper.old.base least.now }
+    requires goes { GoesOn app.now limits.now stepper.old.base }
     requires few { AllByRecursion (λ now. length least.now + length now ≤ 3) level.now }
-    requires ahead { base.now.steps < until }
+    requires ahead { stepper.old.base.steps < until }
     requires room { number_in frontier.old + length level.now * count < 2 ^ 128 }
-    ensures takes { OnOk result (TakesBy app.now limits.now levels until base.now count least.now level.now frontier.old frontier.new) }
+    ensures base { stepper.new.base ≡ stepper.old.base }
+    ensures takes { OnOk result (TakesBy app.now limits.now levels until stepper.old.base count least.now level.now frontier.old frontier.new) }
     ensures count { OnOk result (number_in frontier.new ≤ number_in frontier.old + length level.now * count) }
 {
     for now in level {
-        stepper.kernel.restore(base);
+        stepper.kernel.set_from(&stepper.base);
         step_by(
             alloc,
             app,
@@ -146,7 +144,7 @@ fn step_by_each(
     Ok(())
 }
 
-// From the kernel of a snapshot the plans go on with each choice of these levels.
+// From the stepper's base the plans go on with each choice of these levels.
 fn step_by_levels(
     alloc: Global,
     app: &App,
@@ -156,16 +154,16 @@ fn step_by_levels(
     count: u128,
     least: &Placement,
     levels: &[Level],
-    base: &Snapshot,
     stepper: &mut Stepper,
     frontier: &mut Frontier,
 ) -> Result<(), Memory>
-    requires way { HasWay app.now limits.now base.now least.now }
-    requires goes { GoesOn app.now limits.now base.now }
+    requires way { HasWay app.now limits.now stepper.old.base least.now }
+    requires goes { GoesOn app.now limits.now stepper.old.base }
     requires few { AllByRecursion (λ level. AllByRecursion (λ now. length least.now + length now ≤ 3) level) levels.now }
-    requires ahead { base.now.steps < until }
+    requires ahead { stepper.old.base.steps < until }
     requires room { number_in frontier.old + length (flat_map (λ level. level) levels.now) * count < 2 ^ 128 }
-    ensures takes { OnOk result (TakesBy app.now limits.now all until base.now count least.now
+    ensures base { stepper.new.base ≡ stepper.old.base }
+    ensures takes { OnOk result (TakesBy app.now limits.now all until stepper.old.base count least.now
         (flat_map (λ level. level) levels.now) frontier.old frontier.new) }
     ensures count { OnOk result (number_in frontier.new
         ≤ number_in frontier.old + length (flat_map (λ level. level) levels.now) * count) }
@@ -180,7 +178,6 @@ fn step_by_levels(
             count,
             least,
             level.as_slice(),
-            base,
             stepper,
             frontier,
         )?;
@@ -188,60 +185,48 @@ fn step_by_levels(
     Ok(())
 }
 
-// From the kernel of a node, which the stepper has, the plans go on with each choice of as many
-// handlers as they have left. That no handler comes is the first, since that needs no other copy of
-// the kernel.
+// From the stepper's base the plans go on with each choice of as many handlers as they have left.
+// That no handler comes is the last, since that needs no copy of the kernel.
 fn go_on(
     alloc: Global,
     app: &App,
     limits: &Limits,
     choices: &Choices,
     until: u32,
-    node: &Node,
+    count: u128,
+    least: &Placement,
     stepper: &mut Stepper,
     frontier: &mut Frontier,
 ) -> Result<(), Memory>
-    requires there { stepper.old.kernel ≡ node.now.kernel.value }
-    requires way { HasWay app.now limits.now node.now.kernel.value node.now.least }
-    requires goes { GoesOn app.now limits.now node.now.kernel.value }
+    requires way { HasWay app.now limits.now stepper.old.base least.now }
+    requires goes { GoesOn app.now limits.now stepper.old.base }
     requires levels { AreLevels choices.now.handlers.items choices.now.levels.items }
     requires few { length choices.now.levels.items ≤ 4 }
-    requires left { length node.now.least < length choices.now.levels.items }
-    requires ahead { node.now.kernel.value.steps < until }
+    requires left { length least.now < length choices.now.levels.items }
+    requires ahead { stepper.old.base.steps < until }
     requires room { number_in frontier.old
-        + length (nows_of choices.now.handlers.items (length choices.now.levels.items) node.now.least) * node.now.count < 2 ^ 128 }
-    ensures { OnOk result (TakesBy app.now limits.now (length choices.now.levels.items) until node.now.kernel.value node.now.count
-        node.now.least (nows_of choices.now.handlers.items (length choices.now.levels.items) node.now.least)
-        frontier.old frontier.new) }
+        + length (nows_of choices.now.handlers.items (length choices.now.levels.items) least.now) * count < 2 ^ 128 }
+    ensures { OnOk result (TakesBy app.now limits.now (length choices.now.levels.items) until stepper.old.base count least.now
+        (nows_of choices.now.handlers.items (length choices.now.levels.items) least.now) frontier.old frontier.new) }
 {
+    let left = choices.levels.len() - least.len();
     let all = choices.levels.len();
-    let left = all - node.least.len();
     let (up_to_most, _) = choices.levels.as_slice().split_at(left);
     let (_, some) = up_to_most.split_at(1);
+    step_by_levels(
+        alloc, app, limits, all, until, count, least, some, stepper, frontier,
+    )?;
     step_by(
         alloc,
         app,
         limits,
         all,
         until,
-        node.count,
-        &node.least,
+        count,
+        least,
         &[],
-        &mut stepper.kernel,
+        &mut stepper.base,
         &mut stepper.reported,
-        frontier,
-    )?;
-    step_by_levels(
-        alloc,
-        app,
-        limits,
-        all,
-        until,
-        node.count,
-        &node.least,
-        some,
-        &node.kernel,
-        stepper,
         frontier,
     )
 }
@@ -253,34 +238,45 @@ fn pass(
     limits: &Limits,
     choices: &Choices,
     until: u32,
-    node: &Node,
+    node: Node,
     stepper: &mut Stepper,
     frontier: &mut Frontier,
 ) -> Result<(), Memory>
-    requires way { HasWay app.now limits.now node.now.kernel.value node.now.least }
+    requires way { HasWay app.now limits.now node.kernel.value node.least }
     requires levels { AreLevels choices.now.handlers.items choices.now.levels.items }
     requires few { length choices.now.levels.items ≤ 4 }
-    requires left { length node.now.least < length choices.now.levels.items }
-    requires ahead { node.now.kernel.value.steps < until }
+    requires left { length node.least < length choices.now.levels.items }
+    requires ahead { node.kernel.value.steps < until }
     requires room { number_in frontier.old
-        + length (nows_of choices.now.handlers.items (length choices.now.levels.items) node.now.least) * node.now.count < 2 ^ 128 }
-    requires found { number_in frontier.old + node.now.count < 2 ^ 128 }
+        + length (nows_of choices.now.handlers.items (length choices.now.levels.items) node.least) * node.count < 2 ^ 128 }
+    requires found { number_in frontier.old + node.count < 2 ^ 128 }
     ensures { OnOk result (Passes app.now limits.now choices.now.handlers.items (length choices.now.levels.items)
-        until node.now frontier.old frontier.new) }
+        until node frontier.old frontier.new) }
 {
-    stepper.kernel.restore(&node.kernel);
-    match stepper.kernel.ended(app, limits) {
+    stepper.base.restore(&node.kernel);
+    frontier.live.keep_memory(node.kernel);
+    match stepper.base.ended(app, limits) {
         Some(end) => count_end(
             &mut frontier.findings,
             Found {
                 number: node.count,
-                least: node.least.copy(),
-                steps: stepper.kernel.steps(),
-                ticks: stepper.kernel.ticks(),
+                least: node.least,
+                steps: stepper.base.steps(),
+                ticks: stepper.base.ticks(),
                 end,
             },
         ),
-        None => go_on(alloc, app, limits, choices, until, node, stepper, frontier),
+        None => go_on(
+            alloc,
+            app,
+            limits,
+            choices,
+            until,
+            node.count,
+            &node.least,
+            stepper,
+            frontier,
+        ),
     }
 }
 
@@ -304,8 +300,7 @@ pub(crate) fn advance(
 {
     frontier.take_live(alloc, layer);
     while let Some(node) = layer.nodes.pop() {
-        pass(alloc, app, limits, choices, until, &node, stepper, frontier)?;
-        frontier.live.keep_memory(node.kernel);
+        pass(alloc, app, limits, choices, until, node, stepper, frontier)?;
     }
     Ok(())
 }

@@ -18,9 +18,10 @@ pub(crate) struct Reported {
     trail: Trail,
 }
 
-/// What steps are done with: a kernel that goes on from that of a node, and what they report.
+/// What steps are done with: the kernel of a node, one that goes on from it, and what they report.
 #[derive(Drop)]
 pub(crate) struct Stepper {
+    pub(crate) base: Kernel,
     pub(crate) kernel: Kernel,
     pub(crate) reported: Reported,
 }
@@ -29,6 +30,7 @@ impl Stepper {
     /// One at reset.
     pub(crate) fn new(alloc: Global, app: &App) -> Stepper {
         Stepper {
+            base: Kernel::boot(app),
             kernel: Kernel::boot(app),
             reported: Reported {
                 log: StepLog::new(),

@@ -1,4 +1,4 @@
-use Rattle.std.proofs.Common.{◌≤◌, ◌+◌, ◌-◌, ◌∷◌, [], ◌++◌, List, Global, Vec, ap, arith, length, refl, subst}
+use Rattle.std.proofs.Common.{◌≤◌, ◌+◌, ◌-◌, ◌∷◌, [], ◌++◌, List, Global, Vec, ap, arith, length, subst}
 use Rattle.model.specs.Placements.{Found}
 use Rattle.explorer.specs.declared.layer.Layer.{Layer}
 use Rattle.explorer.specs.declared.layer.Node.{Node}
@@ -6,7 +6,6 @@ use Rattle.explorer.specs.Frontiers.{everything}
 use Rattle.explorer.proofs.Advancing.{AreLeft, all_passed, few_in_all, its_least, its_passed, its_room, its_step, its_way}
 use Rattle.explorer.proofs.Advancing.{live_left, none_there}
 use Rattle.explorer.proofs.Advancing.{room_for_all}
-use Rattle.explorer.proofs.Holding.{holds_alike}
 use Rattle.explorer.proofs.advance.advance.Goals as goal
 
 pub pass-requires : goal.pass-requires
@@ -62,11 +61,8 @@ loop-node-preserved c = λ n all left.
     its_passed app limits handlers levels n (n + 1) until (λ plan. length plan ≤ levels - 1) rest node next all
     (subst (λ (nodes : List Node).
     AreLeft app limits handlers levels n (n + 1) until (λ plan. length plan ≤ levels - 1) nodes next all)
-    c.in-Some.ensures.items (c.loop-node.invariant n all left)) (record c.pass.new.frontier { live = c.keep_memory.new.self })
-    (λ more base are of holds.
-    holds_alike app limits handlers levels (n + 1) until c.pass.new.frontier
-    (record c.pass.new.frontier { live = c.keep_memory.new.self }) _
-    (ap (λ (ns : Vec Node Global). ns.items) c.keep_memory.ensures) refl refl (c.in_ok-pass.ensures n more base of holds))
+    c.in-Some.ensures.items (c.loop-node.invariant n all left)) c.pass.new.frontier
+    (λ more base are of holds. c.in_ok-pass.ensures n more base of holds)
 
 pub returns : goal.returns
 returns c = λ n h.

@@ -1,4 +1,4 @@
-use Rattle.std.proofs.Common.{◌≡◌, ◌∙◌, ◌≤◌, ◌+◌, ◌*◌, ◌^◌, ℕ, List, [], ◌∷◌, ◌++◌, ap, arith, length, subst, sym, take}
+use Rattle.std.proofs.Common.{◌≡◌, ◌∙◌, ◌≤◌, ◌+◌, ◌*◌, ◌^◌, ℕ, List, [], ◌∷◌, ◌++◌, ap, arith, length, refl, subst, sym, take}
 use Rattle.std.proofs.lemmas.List.{take_more}
 use Rattle.machine.specs.declared.machine.Machine.{Machine}
 use Rattle.explorer.specs.Frontiers.{TakesBy, number_in}
@@ -24,8 +24,9 @@ step_by-requires-clause-room c =
 
 pub loop-now-init : goal.loop-now-init
 loop-now-init c = record {
+  base = refl;
   takes =
-      takes_none c.args.app.now c.args.limits.now c.args.levels c.args.until c.args.base.now c.args.count c.args.least.now
+      takes_none c.args.app.now c.args.limits.now c.args.levels c.args.until c.args.stepper.now.base c.args.count c.args.least.now
       c.args.frontier.now;
   count = omega arith;
 }
@@ -44,19 +45,20 @@ loop-now-preserved c =
     let so_far = c.loop-now.invariant.count in
     let more = c.in_ok-step_by.ensures.count in
     record {
+      base = c.loop-now.invariant.base;
       takes =
-          takes_as c.args.app.now c.args.limits.now c.args.levels c.args.until c.args.base.now c.args.count c.args.least.now
+          takes_as c.args.app.now c.args.limits.now c.args.levels c.args.until c.args.stepper.now.base c.args.count c.args.least.now
           (take i level ++ now ∷ []) (take (i + 1) level) old new one_more
-          (takes_then c.args.app.now c.args.limits.now c.args.levels c.args.until c.args.base.now c.args.count
+          (takes_then c.args.app.now c.args.limits.now c.args.levels c.args.until c.args.stepper.now.base c.args.count
           c.args.least.now (take i level) (now ∷ []) old mid new c.loop-now.invariant.takes
           (subst (λ (k : Machine). TakesBy c.args.app.now c.args.limits.now c.args.levels c.args.until k c.args.count
-          c.args.least.now (now ∷ []) mid new) c.restore.ensures c.in_ok-step_by.ensures.takes));
+          c.args.least.now (now ∷ []) mid new) (c.set_from.ensures ∙ c.loop-now.invariant.base) c.in_ok-step_by.ensures.takes));
       count = omega (arith, so_far, more);
     }
 
 pub returns-clause-takes : goal.returns-clause-takes
 returns-clause-takes c =
-    takes_as c.args.app.now c.args.limits.now c.args.levels c.args.until c.args.base.now c.args.count c.args.least.now
+    takes_as c.args.app.now c.args.limits.now c.args.levels c.args.until c.args.stepper.now.base c.args.count c.args.least.now
     (take c.loop-now.now-index c.args.level.now)
     c.args.level.now c.args.frontier.now c.loop-now.frontier
     (take_whole c.args.level.now c.loop-now.now-index c.loop-now-test.false) c.loop-now.invariant.takes

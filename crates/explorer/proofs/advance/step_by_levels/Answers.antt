@@ -1,7 +1,8 @@
-use Rattle.std.proofs.Common.{◌≡◌, ◌∙◌, ◌≤◌, ◌+◌, ◌*◌, ◌^◌, ◌<◌, ℕ, List, ◌++◌, ap, arith, length, length-append, subst, sym}
+use Rattle.std.proofs.Common.{◌≡◌, ◌∙◌, ◌≤◌, ◌+◌, ◌*◌, ◌^◌, ◌<◌, ℕ, List, ◌++◌, ap, arith, length, length-append, refl, subst, sym}
 use Rattle.std.proofs.Common.{take}
 use Rattle.std.specs.List.{AllByRecursion, flat_map}
-use Rattle.explorer.specs.Frontiers.{number_in}
+use Rattle.machine.specs.declared.machine.Machine.{Machine}
+use Rattle.explorer.specs.Frontiers.{TakesBy, number_in}
 use Rattle.explorer.proofs.Passing.{all_get, level_fits, level_on, take_whole, takes_as, takes_none, takes_then}
 use Rattle.explorer.proofs.advance.step_by_levels.Goals as goal
 
@@ -22,8 +23,9 @@ step_by_each-requires-clause-room c =
 
 pub loop-level-init : goal.loop-level-init
 loop-level-init c = record {
+  base = refl;
   takes =
-      takes_none c.args.app.now c.args.limits.now c.args.all c.args.until c.args.base.now c.args.count c.args.least.now
+      takes_none c.args.app.now c.args.limits.now c.args.all c.args.until c.args.stepper.now.base c.args.count c.args.least.now
       c.args.frontier.now;
   count = omega arith;
 }
@@ -40,12 +42,14 @@ loop-level-preserved c =
     let count = c.loop-level.invariant.count in
     let more = c.in_ok-step_by_each.ensures.count in
     record {
+      base = c.step_by_each.ensures.base ∙ c.loop-level.invariant.base;
       takes =
-          takes_as c.args.app.now c.args.limits.now c.args.all c.args.until c.args.base.now c.args.count c.args.least.now
+          takes_as c.args.app.now c.args.limits.now c.args.all c.args.until c.args.stepper.now.base c.args.count c.args.least.now
           (so_far ++ nows) _ c.args.frontier.now c.step_by_each.new.frontier one_more
-          (takes_then c.args.app.now c.args.limits.now c.args.all c.args.until c.args.base.now c.args.count c.args.least.now
+          (takes_then c.args.app.now c.args.limits.now c.args.all c.args.until c.args.stepper.now.base c.args.count c.args.least.now
           so_far nows c.args.frontier.now c.loop-level.frontier c.step_by_each.new.frontier c.loop-level.invariant.takes
-          c.in_ok-step_by_each.ensures.takes);
+          (subst (λ (k : Machine). TakesBy c.args.app.now c.args.limits.now c.args.all c.args.until k c.args.count c.args.least.now
+          nows c.loop-level.frontier c.step_by_each.new.frontier) c.loop-level.invariant.base c.in_ok-step_by_each.ensures.takes));
       count =
           subst (λ (ns : List (List ℕ)). number_in c.step_by_each.new.frontier
           ≤ number_in c.args.frontier.now + length ns * c.args.count) one_more
@@ -56,7 +60,7 @@ loop-level-preserved c =
 
 pub returns-clause-takes : goal.returns-clause-takes
 returns-clause-takes c =
-    takes_as c.args.app.now c.args.limits.now c.args.all c.args.until c.args.base.now c.args.count c.args.least.now
+    takes_as c.args.app.now c.args.limits.now c.args.all c.args.until c.args.stepper.now.base c.args.count c.args.least.now
     (flat_map (λ (ls : List (List ℕ)). ls) (take c.loop-level.level-index c.args.levels.now))
     (flat_map (λ (ls : List (List ℕ)). ls) c.args.levels.now) c.args.frontier.now c.loop-level.frontier
     (ap (λ (ls : List (List (List ℕ))). flat_map (λ (ns : List (List ℕ)). ns) ls)
