@@ -9,9 +9,9 @@ play ping-pong, and the handler fills a queue that nobody reads; `woken`, the ha
 `marked`, the handler only marks; `counted`, it counts a semaphore up for good; `overwritten`, it changes a variable over which a task
 writes in each turn; `added`, it counts on in the variable in which a task counts, so rows meet each other and never the base run;
 `inheritance`, three tasks share a mutex at fixed times, and the handler wakes one that waits for it and gives up; `delays`, the same with
-delays; `timer`, the handler raises itself again for the tenth tick from now, so rows meet those of the same phase; `apart`, it comes at
-most once in two ticks, and a task receives what it sent; `stamped`, each row keeps the tick of its injection for good, so no row comes to
-the kernel of another."""
+delays; `timer`, the handler raises itself again for the tenth tick from now, so rows meet those of the same phase; `slow_timer`, for the
+hundredth; `apart`, it comes at most once in two ticks, and a task receives what it sent; `stamped`, each row keeps the tick of its
+injection for good, so no row comes to the kernel of another."""
 from __future__ import annotations
 
 import argparse
@@ -66,6 +66,7 @@ CASES = {
     "inheritance": shared_mutex("delay_until"),
     "delays": shared_mutex("delay"),
     "timer": handler("raise h 10") + task("worker", 1, ["raise h 10", *turns("work 1000")]),
+    "slow_timer": handler("raise h 100") + task("worker", 1, ["raise h 100", *turns("work 1000")]),
     "apart": '[[queue]]\nname = "q"\nlength = 1\n' + handler("send q 9") + "apart = 2\n"
     + task("driver", 2, turns("receive q forever")) + task("worker", 1, turns("work 3")),
     "stamped": ping_pong('[[binary]]\nname = "s"\n', "give s", task("stamped", 2, ["take s forever", "stamp", *turns("take s forever", "since")])),

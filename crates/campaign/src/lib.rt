@@ -19,6 +19,7 @@ mod runner;
 mod serving;
 mod spacing;
 mod tallying;
+mod timers;
 mod worker;
 
 pub use file::{ServeFault, app_in};

@@ -5,6 +5,7 @@ ghost use Rattle.campaign.specs.Marks.{IsPutAt, IsRestAt};
 use crate::ahead::Ahead;
 use crate::mark::Mark;
 use crate::mark_steps::may_look;
+use crate::spacing::Room;
 use kernel::{Kernel, Snapshot};
 use std::alloc::Global;
 
@@ -69,9 +70,10 @@ impl MarkTable {
 
     /// Puts a mark, if there is memory for it, of a row whose last injection comes before this
     /// step. If there are many, it takes the place of one that is of no use to this row or to rows
-    /// that were injected before it, if such a one is found soon. If there are as many as `room`,
-    /// it takes the place of any. The snapshot of the replaced one is then among the spent ones.
-    pub(crate) fn put(&mut self, mark: Mark, step: u32, room: usize, spent: &mut Vec<Box<Snapshot>>)
+    /// that were injected before it, if such a one is found soon. If there are as many as there is
+    /// room for, it takes the place of any. If they are a queue it takes the place of the first one,
+    /// and only then. The snapshot of the replaced one is then among the spent ones.
+    pub(crate) fn put(&mut self, mark: Mark, step: u32, room: Room, spent: &mut Vec<Box<Snapshot>>)
         ensures { IsPutAt self.old.marks.items self.new.marks.items mark }
     {
         let hint = mark.hint;
@@ -111,12 +113,28 @@ impl MarkTable {
         turn
     }
 
-    // The number of a mark in place of which another may be put. If there are few marks there is
-    // none, and if there is room for no more it is any.
-    fn spent(&mut self, step: u32, room: usize) -> Option<usize>
+    // The number of the mark that was put first, if there are this many.
+    fn first(&mut self, most: usize) -> Option<usize>
         ensures marks { self.new.marks ≡ self.old.marks }
         ensures within { IfSome result (λ number. number < length self.old.marks.items) }
     {
+        let count = self.marks.len();
+        if count == 0 || count < most {
+            return None;
+        }
+        let number = self.take_turn();
+        Some(number.min(count - 1))
+    }
+
+    // The number of a mark in place of which another may be put. If there are few marks there is
+    // none, and if there is room for no more it is any.
+    fn spent(&mut self, step: u32, room: Room) -> Option<usize>
+        ensures marks { self.new.marks ≡ self.old.marks }
+        ensures within { IfSome result (λ number. number < length self.old.marks.items) }
+    {
+        if room.is_queue {
+            return self.first(room.most);
+        }
         if self.marks.len() < LEAST_ROOM {
             return None;
         }
@@ -126,7 +144,7 @@ impl MarkTable {
                 return Some(number);
             }
         }
-        if self.marks.len() < room {
+        if self.marks.len() < room.most {
             return None;
         }
         Some(self.turn.min(self.marks.len() - 1))

@@ -104,12 +104,11 @@ fn snapshot_of(
 }
 
 impl Runner {
-    /// No row is run. The base run has a stop before each `stride`-th step.
-    pub(crate) fn new(alloc: Global, app: &App, stride: u32) -> Runner
+    /// No row is run. Rows will look for marks in this way.
+    pub(crate) fn new(alloc: Global, app: &App, spacing: Spacing) -> Runner
         ensures legs { result.legs.items ≡ [] }
         ensures marks { result.table.marks.items ≡ [] }
     {
-        let spacing = Spacing::new(stride);
         Runner {
             alloc,
             kernel: Kernel::boot(app),
@@ -172,7 +171,8 @@ impl Runner {
         })
     }
 
-    // Notes the kernel that the row has reached on its way, if there is memory for it.
+    // Notes the kernel that the row has reached on its way, if it may leave another mark and there is
+    // memory for it.
     fn note(&mut self, hint: u64)
         ensures kernel { self.new.kernel ≡ self.old.kernel }
         ensures trail { self.new.trail ≡ self.old.trail }
@@ -180,6 +180,9 @@ impl Runner {
         ensures table { self.new.table ≡ self.old.table }
         ensures passed { IsNoted (all_of self.old.trail) self.old.kernel self.old.passed.items self.new.passed.items }
     {
+        if self.passed.len() >= self.spacing.most_marks() {
+            return;
+        }
         let Some(kernel) = snapshot_of(self.alloc, &self.kernel, &mut self.spent) else {
             return;
         };
@@ -447,6 +450,7 @@ impl Runner {
         limits.well_formed();
         let base = shelf.base();
         self.passed.clear();
+        self.spacing.begin_row(point);
         let from = self.trail.len();
         let last = point.last_step();
         let until = first_mark(&self.spacing, point);

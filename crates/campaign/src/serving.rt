@@ -12,6 +12,7 @@ use crate::file::{ServeFault, app_in, app_of};
 use crate::gate::{Gate, NoGate};
 use crate::making::campaign_from;
 use crate::points::{ExpandFault, expand};
+use crate::timers::{Timers, has_timers};
 use byte_io::{Sink, Source};
 use deal::{Division, Tally};
 use model::{App, Memory, Point, Totals};
@@ -40,14 +41,23 @@ impl From<ExpandFault> for ServeFault {
 // the others at the end.
 const LEAST_BLOCKS: usize = 8;
 
+// If timers are injected, a block has about as many points as a period has steps, and this many at
+// least. Then it has a row of each phase, and these are not run far beyond the block.
+const LEAST_OF_TIMERS: u32 = 64;
+
 // How many points a block has: as many as are asked for, or fewer, so that there are some blocks
-// for each of this many workers.
-fn points_of_a_block(options: Options, points: usize, workers: usize) -> usize
+// for each of this many workers, and that rows of timers are run little further than a period.
+fn points_of_a_block(options: Options, points: usize, workers: usize, timers: &Timers) -> usize
     requires { 0 < workers }
     ensures { 0 < result }
 {
-    let most = options.block.clamp(1, Options::MOST_BLOCK) as usize;
-    most.min(points / workers / LEAST_BLOCKS).max(1)
+    let asked = options.block.clamp(1, Options::MOST_BLOCK);
+    let most = match timers.widest() {
+        0 => asked,
+        spacing => asked.min(spacing.max(LEAST_OF_TIMERS)),
+    };
+    let some = points / workers / LEAST_BLOCKS;
+    some.min(most as usize).max(1)
 }
 
 // How many threads make the rows, and then spell them.
@@ -60,12 +70,13 @@ fn threads_of(options: Options) -> usize
 
 // How many steps are between two stops of the base run: as many as are asked for, and eight times
 // as many if the report isn't a whole one. There it is of no use that a row goes on as the base run
-// does, and not as another row, so most stops would only take memory.
-fn steps_between_stops(options: Options, view: View) -> u32
+// does, and not as another row, so most stops would only take memory. But if timers are injected a
+// worker goes to the first point of each short block from the stop before it.
+fn steps_between_stops(options: Options, view: View, timers: bool) -> u32
     ensures some { 0 < result }
     ensures near { result ≤ 65536 }
 {
-    let stride = if view == View::plain() {
+    let stride = if timers || view == View::plain() {
         options.stride
     } else {
         options.stride.saturating_mul(8)
@@ -93,7 +104,8 @@ fn report_from<R: Threads + Wait + Sync, G: Gate + Sync>(
     ensures rows { IfOk result (λ report. AreSeen app.now shelf.limits view points.now report.rows) }
 {
     let workers = threads_of(options);
-    let block = points_of_a_block(options, points.len(), workers);
+    let timers = Timers::of(app, shelf.base(), &view);
+    let block = points_of_a_block(options, points.len(), workers, &timers);
     let Ok(division) = Division::even(alloc, points.len(), block) else {
         return Err(Memory);
     };
@@ -118,7 +130,7 @@ fn report_of<R: Threads + Wait + Sync, G: Gate + Sync>(
 ) -> Result<Report, ServeFault>
     ensures { MatchResult result (IsShownOf app.now view shard) (IsCampaignFault app.now) }
 {
-    let stride = steps_between_stops(options, view);
+    let stride = steps_between_stops(options, view, has_timers(app, &view));
     let shelf = Shelf::make(alloc, app, app.limits(), stride)?;
     let points = expand(alloc, app, shelf.base())?;
     let first = shard.first(points.len());

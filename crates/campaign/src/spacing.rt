@@ -1,6 +1,8 @@
 //! How far after its last injection a row looks for marks first, and how many steps are between two
 //! marks near it.
 use crate::mark_steps::spacing_of;
+use crate::timers::Timers;
+use model::Point;
 
 /// Where rows look: how often the widest spacing is halved, and after how many eighths of it,
 /// counted from their last injection, they look first.
@@ -63,11 +65,35 @@ const COST_OF_A_MARK: u32 = 4;
 // Beyond this, which is 12 steps of each row. Rows that cost little more meet rows of a moment ago.
 const FREE: u32 = 768;
 
+// A row of a timer leaves at most this many marks. Others of the same phase find the first of them.
+// If a row that is run far left many, they would take the places of these.
+const MARKS_OF_A_PHASE: usize = 8;
+
+// Of rows of timers so many marks are kept for each step of their spacing. They usually leave one
+// or two in each, and reach those of the next period.
+const MARKS_OF_A_STEP: u32 = 4;
+
+// And this many for the rows of a short block.
+const MARKS_OF_A_BLOCK: u32 = 256;
+
+/// How many marks are kept, and which are replaced when there are so many.
+#[derive(Clone, Copy)]
+pub(crate) struct Room {
+    pub(crate) most: usize,
+    /// Those that were put first, and no others.
+    pub(crate) is_queue: bool,
+}
+
 /// How many steps are between two marks near an injection, and how far after it a row looks for one
 /// first. Each way to look is tried with many rows. The one with which they cost least is kept for
 /// long, and then all are tried again.
+///
+/// Rows of timers look once in a period, and aren't judged.
 #[derive(Drop)]
 pub(crate) struct Spacing {
+    timers: Timers,
+    // The spacing of the row on its way, if it is one of a timer; otherwise 0.
+    phase: u32,
     widest: u32,
     steps: u32,
     delay: u32,
@@ -86,9 +112,11 @@ pub(crate) struct Spacing {
 impl Spacing {
     /// The first way that is tried: marks are widest apart, if the base run has a stop before each
     /// `stride`-th step.
-    pub(crate) fn new(stride: u32) -> Spacing {
+    pub(crate) fn new(stride: u32, timers: Timers) -> Spacing {
         let widest = spacing_of(stride);
         Spacing {
+            timers,
+            phase: 0,
             widest,
             steps: widest,
             delay: 0,
@@ -107,26 +135,56 @@ impl Spacing {
         self.widest >> MOST_HALVINGS
     }
 
-    /// How many steps they are now.
-    pub(crate) fn steps(&self) -> u32 {
-        self.steps
+    /// The row of this point begins.
+    pub(crate) fn begin_row(&mut self, point: &Point) {
+        self.phase = self.timers.spacing(point.first().handler.number);
     }
 
-    /// How many steps a row now does after its last injection before it looks.
+    /// How many steps they are in the row on its way.
+    pub(crate) fn steps(&self) -> u32 {
+        if self.phase > 0 {
+            self.phase
+        } else {
+            self.steps
+        }
+    }
+
+    /// How many steps that row does after its last injection before it looks.
     pub(crate) fn delay(&self) -> u32 {
-        self.delay
+        if self.phase > 0 { 0 } else { self.delay }
+    }
+
+    /// How many marks that row leaves at most.
+    pub(crate) fn most_marks(&self) -> usize {
+        if self.phase > 0 {
+            MARKS_OF_A_PHASE
+        } else {
+            usize::MAX
+        }
     }
 
     /// How many marks are kept at most. If rows cost little, they reach marks that were left a
     /// moment ago, and a mark that was left long ago is only in the way of these in a processor's
     /// cache. If rows are run far, each mark that is found saves many steps.
-    pub(crate) fn room(&self) -> usize {
-        self.room as usize
+    pub(crate) fn room(&self) -> Room {
+        let most = if self.phase > 0 {
+            let marks = self.phase.saturating_mul(MARKS_OF_A_STEP);
+            marks.saturating_add(MARKS_OF_A_BLOCK).min(MOST_MARKS)
+        } else {
+            self.room
+        };
+        Room {
+            most: most as usize,
+            is_queue: self.phase > 0,
+        }
     }
 
     /// A row did this many steps after its last injection, and left this many marks. After many
     /// rows their cost is judged.
     pub(crate) fn count_row(&mut self, steps: u32, marks: usize) {
+        if self.phase > 0 {
+            return;
+        }
         let marks = (marks.min(MOST as usize) as u32).saturating_mul(MARK);
         let cost = steps.saturating_add(marks).min(MOST);
         self.cost = self.cost.saturating_add(cost);

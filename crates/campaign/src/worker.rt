@@ -10,7 +10,9 @@ ghost use Rattle.campaign.specs.Setup.{work_of};
 use crate::gate::Gate;
 use crate::recent::Recent;
 use crate::runner::Runner;
+use crate::spacing::Spacing;
 use crate::tallying::RowCounts;
+use crate::timers::Timers;
 use deal::{Lane, Next, Tally, TallySeat};
 use model::{App, End, Memory, Point};
 use report::View;
@@ -95,8 +97,8 @@ fn again(kept: &KeptRows, recent: &Recent, point: &Point) -> Option<usize>
 }
 
 impl Worker {
-    // A worker that has made nothing, with this room for rows.
-    fn new(alloc: Global, app: &App, stride: u32, kept: KeptRows) -> Worker
+    // A worker that has made nothing, with this room for rows, whose rows will look for marks in this way.
+    fn new(alloc: Global, app: &App, spacing: Spacing, kept: KeptRows) -> Worker
         ensures walk { (limits : Limits) → IsWalk app.now limits result.walk }
         ensures kept { result.kept ≡ kept }
         ensures blocks { result.blocks.items ≡ [] }
@@ -104,7 +106,7 @@ impl Worker {
         ensures marks { result.runner.table.marks.items ≡ [] }
     {
         Worker {
-            runner: Runner::new(alloc, app, stride),
+            runner: Runner::new(alloc, app, spacing),
             walk: Walk::new(app),
             kept,
             blocks: Vec::new(alloc),
@@ -228,7 +230,9 @@ pub(crate) fn work<R: Wait, G: Gate>(
         mut seat,
         kept,
     } = job;
-    let mut worker = Worker::new(alloc, setup.app, setup.shelf.stride(), kept);
+    let timers = Timers::of(setup.app, setup.shelf.base(), setup.view);
+    let spacing = Spacing::new(setup.shelf.stride(), timers);
+    let mut worker = Worker::new(alloc, setup.app, spacing, kept);
     let mut refused = true;
     for _ in rt.forever() {
         if stop.load(Ordering::SeqCst) != 0 {
