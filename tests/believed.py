@@ -17,7 +17,7 @@ from definitions import ROOT, Name, crate_of, definitions_of, is_definition_line
 
 KERNEL = "crates/model/specs/Run.antt"
 SERVING = "crates/campaign/specs/Campaigns.antt"
-SERVE = ("crates/campaign/src/serving.rt", "serve")
+SERVE = ("crates/campaign/src/bytes_to_report.rt", "serve")
 OBEY = ("crates/jobs/src/command_line.rt", "obey")
 
 

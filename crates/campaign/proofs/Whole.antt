@@ -18,7 +18,7 @@ use Rattle.deal.proofs.Sums.{total_append}
 use Rattle.deal.proofs.Members.{all_of_each}
 use Rattle.campaign.proofs.Multiplicity.{total_each}
 use Rattle.deal.proofs.Once.{same_or, elsewhere}
-use Rattle.campaign.specs.declared.gathering.Apart.{Apart}
+use Rattle.campaign.specs.declared.worker_results.Apart.{Apart}
 use Rattle.rows.specs.declared.rows.KeptBlock.{KeptBlock}
 use Rattle.rows.specs.declared.rows.KeptRow.{KeptRow}
 use Rattle.rows.specs.declared.rows.Part.{Part}
@@ -32,7 +32,7 @@ use Rattle.rows.specs.Links.{Store}
 use Rattle.rows.specs.Report.{rows_at, store_of, IsPlace, AreKept, IsSound, whole as whole_rows}
 use Rattle.campaign.specs.Kinds.{RiseBy}
 use Rattle.campaign.specs.Made.{IsWhole, BringsWhole, IsBrought, IsMade, rows_placed}
-use Rattle.campaign.specs.declared.making.Made.{Made}
+use Rattle.campaign.specs.declared.all_rows.Made.{Made}
 use Rattle.rows.specs.Placing.{numbers_of, place_of, placed, all_placed, all_numbers, AreBelow}
 use Rattle.campaign.specs.Working.{Work, block_points, AreRowsByBlock, IsKeptBlock, AreKeptBlocks, IsKeptPart, Brings}
 use Rattle.campaign.specs.Working.{IsDone, AreDone, AreIdle, AreJobs, lanes_in, seats_in, parts_in, seats_of}

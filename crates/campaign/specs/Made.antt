@@ -7,7 +7,7 @@ use Rattle.model.specs.Campaign.{Row, totals_of}
 use Rattle.deal.specs.Sharing.{Game, Sight, AreLanesOf, SomeHasSeenAll, lists_of}
 use Rattle.deal.specs.Tallies.{Sheet, Tallied, added_in}
 use Rattle.deal.specs.Totals.{total}
-use Rattle.campaign.specs.declared.making.Made.{Made}
+use Rattle.campaign.specs.declared.all_rows.Made.{Made}
 use Rattle.rows.specs.declared.rows.Part.{Part}
 use Rattle.rows.specs.declared.rows.Place.{Place}
 use Rattle.campaign.specs.Kinds.{RiseBy, kind_in}

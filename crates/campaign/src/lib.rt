@@ -3,10 +3,10 @@
 #![tactic(auto)]
 
 mod ahead;
+mod all_rows;
+mod bytes_to_report;
 mod file;
 mod gate;
-mod gathering;
-mod making;
 mod mark;
 mod mark_steps;
 mod mark_table;
@@ -16,18 +16,18 @@ mod one_run;
 mod points;
 mod recent;
 mod runner;
-mod serving;
 mod spacing;
 mod tallying;
 mod timers;
 mod worker;
+mod worker_results;
 
+pub use all_rows::{Finished, campaign};
+pub use bytes_to_report::{serve, serve_of};
 pub use file::{ServeFault, app_in};
 pub use gate::{Gate, NoGate};
-pub use making::{Finished, campaign};
 pub use named::point_named;
 pub use one_run::{row_of, serve_run, serve_run_of};
 pub use points::{ExpandFault, expand};
 pub use requests::{At, BadOption, NamedInjections, NamedPoint, Options};
 pub use rows::{Report, write_report, write_report_in_threads};
-pub use serving::{serve, serve_of};
