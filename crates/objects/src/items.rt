@@ -20,8 +20,8 @@ const ITEMS: usize = 256 * OBJECTS;
 /// The last object's place, whose region ends the pool's front.
 const LAST: usize = OBJECTS - 1;
 
-/// Of each queue where its region of the pool begins and how long it is, and where in it its first item is and how many it has. They
-/// are copied as one run of bytes.
+/// For each queue the place at which its region of the pool begins, how long that is, the place in it of the first item, and how many
+/// items there are. They are copied as one run of bytes.
 #[derive(Clone, Copy)]
 struct Regions {
     bases: [u16; OBJECTS],
