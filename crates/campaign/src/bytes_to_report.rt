@@ -70,17 +70,20 @@ fn threads_of(options: Options) -> usize
 
 // How many steps are between two stops of the base run: as many as are asked for, and eight times
 // as many if the report isn't a whole one. There it is of no use that a row goes on as the base run
-// does, and not as another row, so most stops would only take memory. But if timers are injected a
-// worker goes to the first point of each short block from the stop before it.
+// does, and not as another row, so most stops would only take memory. If timers are injected they
+// are four times as many: a worker goes to the first point of each short block from the stop before.
 fn steps_between_stops(options: Options, view: View, timers: bool) -> u32
     ensures some { 0 < result }
     ensures near { result ≤ 65536 }
 {
-    let stride = if timers || view == View::plain() {
-        options.stride
+    let times = if view == View::plain() {
+        1
+    } else if timers {
+        4
     } else {
-        options.stride.saturating_mul(8)
+        8
     };
+    let stride = options.stride.saturating_mul(times);
     stride.clamp(1, Options::MOST_STRIDE)
 }
 

@@ -8,17 +8,14 @@ use report::View;
 // An application has at most this many handlers.
 const HANDLERS: usize = 16;
 
-// Rows of a shorter period, in ticks, meet soon, wherever their marks are.
-const LEAST_PERIOD: u32 = 32;
-
 // Marks near an injection are at least so many steps apart: a mark costs more than a few steps.
-const NARROWEST: u32 = 32;
+const NARROWEST: u32 = 8;
 
 // They are at most this far apart.
 const WIDEST: u32 = 2048;
 
-/// How many steps are between two marks near an injection of each handler, if it raises itself after
-/// many ticks and is injected before each of some steps: about a period. 0 for the others.
+/// How many steps are between two marks near an injection of each handler, if it raises itself and
+/// is injected before each of some steps: about a period. 0 for the others.
 #[derive(Clone, Copy)]
 pub(crate) struct Timers {
     spacings: [u32; HANDLERS],
@@ -52,11 +49,10 @@ fn is_injected(app: &App, number: usize) -> bool {
     false
 }
 
-// The period of this handler in ticks, if it isn't short, and the handler raises itself and is
-// injected; otherwise 0.
+// The period of this handler in ticks, if it raises itself and is injected; otherwise 0.
 fn injected_period(app: &App, number: usize) -> u32 {
     let period = period_of(app, number);
-    if period >= LEAST_PERIOD && is_injected(app, number) {
+    if period > 0 && is_injected(app, number) {
         period
     } else {
         0
@@ -68,7 +64,7 @@ fn injected_period(app: &App, number: usize) -> u32 {
 fn spacing_for(period: u32, base: &Run) -> u32 {
     let steps = (period as u64).saturating_mul(base.steps as u64) / base.ticks.max(1);
     let mut spacing = NARROWEST;
-    for _ in 0..6 {
+    for _ in 0..8 {
         if spacing < WIDEST && (spacing as u64) < steps {
             spacing *= 2;
         }
