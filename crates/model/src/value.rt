@@ -41,18 +41,6 @@ impl Value {
     pub fn number(self, variables: &[u32], answer: Option<u32>) -> u32
         ensures { result ≡ number_of variables.now answer self }
     {
-        match self {
-            Value::Number(number) => number,
-            Value::Answer | Value::Variable(_) => self.looked_up(variables, answer),
-        }
-    }
-
-    // The same. If it were inlined, each call on an object would begin with what it looks at.
-    #[cold]
-    #[inline(never)]
-    fn looked_up(self, variables: &[u32], answer: Option<u32>) -> u32
-        ensures { result ≡ number_of variables.now answer self }
-    {
         self.get(variables, answer).unwrap_or(0)
     }
 }
