@@ -179,8 +179,8 @@ impl Clock {
         self.now() - mark.moment
     }
 
-    /// The ticks since a mark of this clock, or 4294967295 where there are more (profile). Held ticks haven't advanced, so
-    /// they don't count. The mark is not after now.
+    /// The ticks since a mark of this clock, or 4294967295 if there are more (profile). Held ticks haven't advanced, so they don't
+    /// count. The mark is not after now.
     pub fn elapsed_since(&self, mark: Mark) -> u32
         requires { mark.moment ≤ self.now.now }
         ensures elapsed { result ≡ min (self.now.now - mark.moment) 4294967295 }
@@ -193,8 +193,7 @@ impl Clock {
         }
     }
 
-    /// The tick that is shown, 0 to 4294967295: the time modulo 2^32, as FreeRTOS's
-    /// `xTaskGetTickCount` answers it.
+    /// The tick that is shown, 0 to 4294967295: the time modulo 2^32, as FreeRTOS's `xTaskGetTickCount` returns it.
     pub fn tick(&self) -> u32
         ensures tick { result ≡ self.now.now % 2 ^ 32 }
     {
@@ -267,7 +266,7 @@ impl Clock {
         self.lists.contains(task)
     }
 
-    /// The tick that is shown when a task's sleep ends; `None` where it doesn't sleep.
+    /// The tick that is shown when a task's sleep ends; `None` if it doesn't sleep.
     pub fn wake_tick(&self, task: TaskId) -> Option<u32>
         // In the definitions it wakes by itself at this time, or doesn't.
         ensures stands { (s : State) → StandsFor self.now s
@@ -330,15 +329,15 @@ impl Clock {
         self.lists.remove(task);
     }
 
-    /// Lets one tick pass, and ends the sleep of the tasks whose wake time has come: they are answered
-    /// in the order in which they began to sleep. Before the call the age is below 2^62 ticks.
+    /// Lets one tick pass, and ends the sleep of the tasks whose wake time has come. It returns them in the order in which they
+    /// began to sleep. Before the call the age is below 2^62 ticks.
     pub fn advance(&mut self) -> Due
         requires { self.old.age < 2 ^ 62 }
         ensures advances { Advances self.old self.new result.items }
         // They are those whom the definitions have due then.
         ensures due { (s : State) → StandsFor self.old s
             → result.items ≡ tasks_of (time.due (at_next_tick s)) }
-        // Once they are Ready too, the tick has come, where ticks aren't held.
+        // Once they are Ready too, the tick has come, if ticks aren't held.
         ensures woken { (s : State) → StandsFor self.old s → holds_ticks s ≡ false
             → StandsFor self.new (time.increment_tick s) }
     {
@@ -368,8 +367,8 @@ impl Clock {
         take_due(&mut self.lists, self.current, self.tick, due);
     }
 
-    /// Lets one tick pass if nobody's sleep ends with it, and answers whether that is so; otherwise nothing
-    /// changes. It makes no list. Before the call the age is below 2^62 ticks.
+    /// Lets one tick pass if nobody's sleep ends with it, and returns whether that is so; otherwise nothing changes. It makes no
+    /// list. Before the call the age is below 2^62 ticks.
     // Most steps are ticks, and a call would cost a tenth of one.
     #[inline(always)]
     pub fn advance_if_none_due(&mut self) -> bool
@@ -431,7 +430,7 @@ impl Clock {
         self.tick += 1;
     }
 
-    /// How many ticks it is until the first sleeper wakes, 1 to 4294967295; `None` where nobody sleeps.
+    /// How many ticks it is until the first sleeper wakes, 1 to 4294967295; `None` if nobody sleeps.
     pub fn nearest(&self) -> Option<u32>
         ensures nearest { result
             ≡ option_map (λ time. time - self.now.now) (first_time self.now.delayed_list) }
@@ -446,10 +445,10 @@ impl Clock {
         Some(u32::MAX - self.tick + self.lists.value(first) + 1)
     }
 
-    /// Lets this many ticks pass at once, 0 to 4294967295, as an idle that has slept through them does (`vTaskStepTick`).
-    /// Nobody's sleep ends before the last of them: where `nearest` answers a number, they are no more than that. Ends the sleep
-    /// of the tasks whose wake time has come: they are answered in the order in which they began to sleep. Before the call the
-    /// age is below 2^62 ticks. Ticks that are held stay held.
+    /// Lets this many ticks pass at once, 0 to 4294967295, as an idle that has slept through them does (`vTaskStepTick`). Nobody's
+    /// sleep ends before the last of them: if `nearest` returns a number, they are no more than that. It ends the sleep of the
+    /// tasks whose wake time has come, and returns them in the order in which they began to sleep. Before the call the age is below
+    /// 2^62 ticks. Ticks that are held stay held.
     pub fn jump(&mut self, ticks: u32) -> Due
         requires soon { Each (λ e. self.old.now + ticks ≤ e.1) self.old.delayed_list }
         requires age { self.old.age < 2 ^ 62 }

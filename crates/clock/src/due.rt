@@ -11,7 +11,7 @@ use task_lists::TaskLists;
 /// The tasks whose wake time has come, 32 at most, in the order in which they began to sleep.
 pub type Due = ArrayVec<TaskId, 32>;
 
-/// The first task of a list, where its value is this one.
+/// The first task of a list, if its value is this one.
 pub(crate) fn first_due(lists: &TaskLists<2, 34>, list: ListId, tick: u32) -> Option<TaskId>
     requires { list.number < 2 }
     ensures due { result ≡ first_at tick (entries_of lists.now list.number) }

@@ -29,49 +29,51 @@ pub seldom : (op : Op)
     → ((wait : NotificationWait) (ticks : Option ℕ) → op ≢ AwaitNotification wait ticks)
     → (op ≢ EndLoop)
     → ((condition : AnswerCondition) → op ≢ If condition)
+    → ((turns : Option ℕ) → op ≢ Repeat turns)
     → ((o : ValueOp) → op ≢ Calculate o)
     → is_frequent op ≡ false
-seldom (DelayUntil ticks) works delays yields times awaits does sets waits notifies notices ends asks values = refl
-seldom (Mark value) works delays yields times awaits does sets waits notifies notices ends asks values = refl
-seldom (Expect condition) works delays yields times awaits does sets waits notifies notices ends asks values = refl
-seldom (Repeat turns) works delays yields times awaits does sets waits notifies notices ends asks values = refl
-seldom Else works delays yields times awaits does sets waits notifies notices ends asks values = refl
-seldom EndIf works delays yields times awaits does sets waits notifies notices ends asks values = refl
-seldom Break works delays yields times awaits does sets waits notifies notices ends asks values = refl
-seldom Stamp works delays yields times awaits does sets waits notifies notices ends asks values = refl
-seldom Since works delays yields times awaits does sets waits notifies notices ends asks values = refl
-seldom (GiveMutex object) works delays yields times awaits does sets waits notifies notices ends asks values = refl
-seldom (MessagesWaiting object) works delays yields times awaits does sets waits notifies notices ends asks values = refl
-seldom (SpacesAvailable object) works delays yields times awaits does sets waits notifies notices ends asks values = refl
-seldom (ClearBits group mask) works delays yields times awaits does sets waits notifies notices ends asks values = refl
-seldom (GetBits group) works delays yields times awaits does sets waits notifies notices ends asks values = refl
-seldom (ClearNotification what) works delays yields times awaits does sets waits notifies notices ends asks values = refl
-seldom (Suspend other) works delays yields times awaits does sets waits notifies notices ends asks values = refl
-seldom (Resume other) works delays yields times awaits does sets waits notifies notices ends asks values = refl
-seldom SuspendAll works delays yields times awaits does sets waits notifies notices ends asks values = refl
-seldom ResumeAll works delays yields times awaits does sets waits notifies notices ends asks values = refl
-seldom EnterCritical works delays yields times awaits does sets waits notifies notices ends asks values = refl
-seldom ExitCritical works delays yields times awaits does sets waits notifies notices ends asks values = refl
-seldom (Source handler what) works delays yields times awaits does sets waits notifies notices ends asks values = refl
-seldom (NextCommand queue) works delays yields times awaits does sets waits notifies notices ends asks values = refl
-seldom Obey works delays yields times awaits does sets waits notifies notices ends asks values = refl
-seldom (Work ticks) works delays yields times awaits does sets waits notifies notices ends asks values = absurd (works ticks refl)
-seldom (Delay ticks) works delays yields times awaits does sets waits notifies notices ends asks values = absurd (delays ticks refl)
-seldom Yield works delays yields times awaits does sets waits notifies notices ends asks values = absurd (yields refl)
-seldom Time works delays yields times awaits does sets waits notifies notices ends asks values = absurd (times refl)
-seldom (Await object access ticks) works delays yields times awaits does sets waits notifies notices ends asks values =
+seldom (DelayUntil ticks) works delays yields times awaits does sets waits notifies notices ends asks repeats values = refl
+seldom (Mark value) works delays yields times awaits does sets waits notifies notices ends asks repeats values = refl
+seldom (Expect condition) works delays yields times awaits does sets waits notifies notices ends asks repeats values = refl
+seldom Else works delays yields times awaits does sets waits notifies notices ends asks repeats values = refl
+seldom EndIf works delays yields times awaits does sets waits notifies notices ends asks repeats values = refl
+seldom Break works delays yields times awaits does sets waits notifies notices ends asks repeats values = refl
+seldom Stamp works delays yields times awaits does sets waits notifies notices ends asks repeats values = refl
+seldom Since works delays yields times awaits does sets waits notifies notices ends asks repeats values = refl
+seldom (GiveMutex object) works delays yields times awaits does sets waits notifies notices ends asks repeats values = refl
+seldom (MessagesWaiting object) works delays yields times awaits does sets waits notifies notices ends asks repeats values = refl
+seldom (SpacesAvailable object) works delays yields times awaits does sets waits notifies notices ends asks repeats values = refl
+seldom (ClearBits group mask) works delays yields times awaits does sets waits notifies notices ends asks repeats values = refl
+seldom (GetBits group) works delays yields times awaits does sets waits notifies notices ends asks repeats values = refl
+seldom (ClearNotification what) works delays yields times awaits does sets waits notifies notices ends asks repeats values = refl
+seldom (Suspend other) works delays yields times awaits does sets waits notifies notices ends asks repeats values = refl
+seldom (Resume other) works delays yields times awaits does sets waits notifies notices ends asks repeats values = refl
+seldom SuspendAll works delays yields times awaits does sets waits notifies notices ends asks repeats values = refl
+seldom ResumeAll works delays yields times awaits does sets waits notifies notices ends asks repeats values = refl
+seldom EnterCritical works delays yields times awaits does sets waits notifies notices ends asks repeats values = refl
+seldom ExitCritical works delays yields times awaits does sets waits notifies notices ends asks repeats values = refl
+seldom (Source handler what) works delays yields times awaits does sets waits notifies notices ends asks repeats values = refl
+seldom (NextCommand queue) works delays yields times awaits does sets waits notifies notices ends asks repeats values = refl
+seldom Obey works delays yields times awaits does sets waits notifies notices ends asks repeats values = refl
+seldom (Work ticks) works delays yields times awaits does sets waits notifies notices ends asks repeats values = absurd (works ticks refl)
+seldom (Delay ticks) works delays yields times awaits does sets waits notifies notices ends asks repeats values = absurd (delays ticks refl)
+seldom Yield works delays yields times awaits does sets waits notifies notices ends asks repeats values = absurd (yields refl)
+seldom Time works delays yields times awaits does sets waits notifies notices ends asks repeats values = absurd (times refl)
+seldom (Await object access ticks) works delays yields times awaits does sets waits notifies notices ends asks repeats values =
     absurd (awaits object access ticks refl)
-seldom (Do object access) works delays yields times awaits does sets waits notifies notices ends asks values =
+seldom (Do object access) works delays yields times awaits does sets waits notifies notices ends asks repeats values =
     absurd (does object access refl)
-seldom (SetBits group mask) works delays yields times awaits does sets waits notifies notices ends asks values =
+seldom (SetBits group mask) works delays yields times awaits does sets waits notifies notices ends asks repeats values =
     absurd (sets group mask refl)
-seldom (WaitBits group condition ticks) works delays yields times awaits does sets waits notifies notices ends asks values =
+seldom (WaitBits group condition ticks) works delays yields times awaits does sets waits notifies notices ends asks repeats values =
     absurd (waits group condition ticks refl)
-seldom (Notify other action) works delays yields times awaits does sets waits notifies notices ends asks values =
+seldom (Notify other action) works delays yields times awaits does sets waits notifies notices ends asks repeats values =
     absurd (notifies other action refl)
-seldom (AwaitNotification wait ticks) works delays yields times awaits does sets waits notifies notices ends asks values =
+seldom (AwaitNotification wait ticks) works delays yields times awaits does sets waits notifies notices ends asks repeats values =
     absurd (notices wait ticks refl)
-seldom EndLoop works delays yields times awaits does sets waits notifies notices ends asks values = absurd (ends refl)
-seldom (If condition) works delays yields times awaits does sets waits notifies notices ends asks values =
+seldom EndLoop works delays yields times awaits does sets waits notifies notices ends asks repeats values = absurd (ends refl)
+seldom (If condition) works delays yields times awaits does sets waits notifies notices ends asks repeats values =
     absurd (asks condition refl)
-seldom (Calculate op) works delays yields times awaits does sets waits notifies notices ends asks values = absurd (values op refl)
+seldom (Repeat turns) works delays yields times awaits does sets waits notifies notices ends asks repeats values =
+    absurd (repeats turns refl)
+seldom (Calculate op) works delays yields times awaits does sets waits notifies notices ends asks repeats values = absurd (values op refl)

@@ -16,8 +16,8 @@ use model::{App, Injection, Limits, Op, TaskId};
 use ops::daemon::{command_of, end_set_by_daemon};
 use ops::event_groups::{end_set, leave_bits_wait};
 
-/// What such an op does where it lets go of the scheduler.
-// A wait is looked for first: most of them are waits.
+/// What such an op does in the step in which it lets go of the scheduler.
+// A wait is tried first, since most of them are waits.
 #[inline(always)]
 fn let_go<L: Log>(machine: &mut Machine, app: &App, task: TaskId, op: &Op, log: &mut L)
     requires room { 337 ≤ (L.logged log.old).room }
@@ -62,7 +62,7 @@ fn step_letting_go<L: Log>(machine: &mut Machine, app: &App, task: TaskId, op: &
     machine.steps += 1;
 }
 
-/// The same along a run that isn't over there. The trail has no event of that step yet, as it is behind one that has reported nothing.
+/// The same in a run that isn't over there. The trail has no event of that step yet, since the step before it reported nothing.
 #[inline(always)]
 pub(crate) fn pass_held(
     kernel: &mut Machine,

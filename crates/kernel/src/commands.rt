@@ -25,7 +25,7 @@ use model::{App, Command, Injection, Limits, Op, Phase, TaskId};
 use ops::daemon::command_of;
 use ops::event_groups::begin_set;
 
-/// The command that the running task, the daemon, has received and is to begin, where it sets bits.
+/// The command that the running task, the daemon, has received and begins next, if it sets bits.
 #[inline(always)]
 fn set_received(machine: &Machine, app: &App, task: TaskId) -> Option<Command>
     requires there { task < length app.now.tasks }
@@ -66,8 +66,8 @@ fn step_setting(machine: &mut Machine, app: &App, task: TaskId, command: &Comman
     machine.steps += 1;
 }
 
-/// The same along a run that is under way and not over, where that step comes before the one of this number: before that one the plan
-/// has no injection, and no limit is reached. The run isn't over then either.
+/// The same in a run that is under way and not over, if that step is before the one of this number: before that one the plan has no
+/// injection, and no limit is reached. The run isn't over then either.
 #[inline(always)]
 fn pass_set(
     kernel: &mut Machine,
@@ -92,9 +92,9 @@ fn pass_set(
     step_setting(kernel, app, task, command);
 }
 
-/// Does the two steps in which the daemon sets the bits of the command that it has just received, if it is one that sets. It does none
-/// where the plan may have an injection, or a limit may be reached, before both are done. Whether the run is over is asked once, since
-/// the first of the two ends no task.
+/// Does the two steps in which the daemon sets the bits of the command that it has just received, if it is one that sets. It does
+/// none if the plan may have an injection, or a limit may be reached, before both are done. Whether the run is over is asked once,
+/// since the first of the two ends no task.
 #[inline(never)]
 pub(crate) fn pass_command(
     kernel: &mut Machine,

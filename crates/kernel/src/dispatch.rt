@@ -21,15 +21,15 @@ use ops::daemon::{next_command, obey};
 use ops::event_groups::{BitsWait, clear_bits, get_bits, set_bits, wait_bits};
 use ops::mutexes::give_mutex;
 use ops::notifications::{await_notification, call_notify, clear_notification};
-use ops::queues::{do_by_value, messages_waiting, spaces_available};
+use ops::queues::{do_now, messages_waiting, spaces_available};
 use ops::script::{branch, close_turn, end_if, expect, leave_loop, mark, open_loop, skip_branch};
 use ops::sources::control;
 use ops::suspension::{call_resume, call_suspend};
 use ops::time::{call_yield, delay, delay_until, since, stamp, time, use_up};
 use ops::values::calculate;
 
-/// What may come behind a step, and is done next with the step's parts at hand. Of `Answered` and `Suspended` the step has reported
-/// something, and of the others nothing.
+/// What may follow a step, and is done next with the step's parts at hand. In `Answered` and `Suspended` the step has reported
+/// something, in the others nothing.
 #[derive(Clone, Copy, PartialEq)]
 pub(crate) enum Following {
     /// Nothing: any other step.
@@ -38,9 +38,9 @@ pub(crate) enum Following {
     Steps,
     /// Those in which the daemon does the command that it has received.
     Command,
-    /// The op to which its task has come amid its script, while nothing else changed.
+    /// The next op of the task's script, if nothing else changed.
     NextOp,
-    /// The same behind a call that has answered, or a mark.
+    /// The same after a call that has returned, or a mark.
     Answered,
     /// The one in which its call on an event group, or for a notification, which has taken hold of the scheduler, lets go of it.
     LettingGo,
@@ -54,7 +54,7 @@ impl Following {
     ghost use Rattle.kernel.specs.declared.dispatch.Following.TheVariants as following;
     ghost use Rattle.kernel.specs.InScript.{is_amid};
 
-    /// The task's next op, if it is still amid its script.
+    /// The task's next op, if its script goes on.
     #[inline]
     fn op_if(stays: bool) -> Following
         ensures amid { is_amid result ≡ true → stays ≡ true }
@@ -67,7 +67,7 @@ impl Following {
         }
     }
 
-    /// The same behind a call that has answered, or a mark.
+    /// The same after a call that has returned, or a mark.
     #[inline]
     fn answered_if(stays: bool) -> Following
         ensures amid { is_amid result ≡ true → stays ≡ true }
@@ -81,7 +81,7 @@ impl Following {
         }
     }
 
-    /// What may come behind a call that waits for bits.
+    /// What may follow a call that waits for bits.
     #[inline]
     fn behind_wait(came_to: BitsWait) -> Following
         ensures amid { is_amid result ≡ true → came_to ≡ wait.Answered }
@@ -95,7 +95,7 @@ impl Following {
         }
     }
 
-    /// What may come behind a call that sets bits, or waits for a notification.
+    /// What may follow a call that sets bits, or waits for a notification.
     #[inline]
     fn letting_go_if(begun: bool) -> Following
         ensures amid { is_amid result ≡ false }
@@ -136,7 +136,7 @@ impl Following {
     }
 }
 
-/// `work`: a tick of it is used up, and the tick passes. It answers what may come behind it.
+/// `work`: a tick of it is used up, and the tick passes. Returns what may follow.
 #[inline(always)]
 fn work<L: Log>(
     machine: &mut Machine,
@@ -159,27 +159,8 @@ fn work<L: Log>(
     Following::steps_if(left > 2)
 }
 
-/// A call that doesn't wait.
-// What it does is lent, so that its copy has a place on the stack only here, which no other step clears.
-#[inline(always)]
-fn do_at_once<L: Log>(
-    machine: &mut Machine,
-    app: &App,
-    task: TaskId,
-    object: ObjectId,
-    access: &Access<Value>,
-    log: &mut L,
-)
-    requires room { 2 ≤ (L.logged log.old).room }
-    requires can { Can app.now machine.old task (op.Do object access.now) }
-    ensures { Does 2 machine.old (L.logged log.old) machine.new (L.logged log.new)
-        (act_by_value app.now task (op.Do object access.now)) }
-{
-    do_by_value(machine, app, task, object, *access, log);
-}
-
-/// What the running task's op does, if no task holds the scheduler; a misuse ends the run, and does nothing else. It returns what
-/// may come behind it. The ops that most steps do are done here, in the code of the step itself; a call does the others.
+/// What the running task's op does, if no task holds the scheduler. A misuse ends the run, and does nothing else. Returns what may
+/// follow. The most frequent ops are done here, in the code of the step itself; a call does the others.
 #[inline(always)]
 pub(crate) fn act<L: Log>(
     machine: &mut Machine,
@@ -202,8 +183,8 @@ pub(crate) fn act<L: Log>(
 {
     match *op {
         Op::Work(ticks) => return work(machine, app, task, ticks, log),
-        Op::Await(object, access, ticks) => {
-            go_on_by_value(machine, app, task, object, access, ticks, log);
+        Op::Await(object, ref access, ref ticks) => {
+            go_on_by_value(machine, app, task, object, access, *ticks, log);
             return Following::Steps;
         }
         Op::SetBits(group, mask) => {
@@ -215,9 +196,10 @@ pub(crate) fn act<L: Log>(
             ));
         }
         Op::End => return Following::op_if(close_turn(machine, app, task)),
-        Op::If(condition) => return Following::op_if(branch(machine, app, task, condition)),
+        Op::If(ref condition) => return Following::op_if(branch(machine, app, task, condition)),
+        Op::Repeat(turns) => return Following::op_if(open_loop(machine, app, task, turns)),
         Op::Value(ref op) => return Following::answered_if(calculate(machine, app, task, op, log)),
-        Op::Do(object, ref access) => do_at_once(machine, app, task, object, access, log),
+        Op::Do(object, ref access) => do_now(machine, app, task, object, access, log),
         Op::Notify(other, ref action) => call_notify(machine, app, task, other, action, log),
         Op::AwaitNotification(ref wait, ref ticks) => {
             return Following::letting_go_if(await_notification(
@@ -256,7 +238,6 @@ fn act_seldom<L: Log>(
 {
     match *op {
         Op::Expect(ref condition) => return Following::op_if(expect(machine, app, task, condition)),
-        Op::Repeat(turns) => return Following::op_if(open_loop(machine, app, task, turns)),
         Op::Else => return Following::op_if(skip_branch(machine, app, task)),
         Op::EndIf => return Following::op_if(end_if(machine, app, task)),
         Op::Break => return Following::op_if(leave_loop(machine, app, task)),
@@ -302,6 +283,7 @@ fn act_seldom<L: Log>(
         | Op::AwaitNotification(_, _)
         | Op::End
         | Op::If(_)
+        | Op::Repeat(_)
         | Op::Value(_) => unreachable!(),
     }
     Following::Nothing

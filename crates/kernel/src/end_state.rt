@@ -41,7 +41,7 @@ fn place(machine: &mut Machine, task: TaskId)
     machine.set_phase(task, Phase::Unlock);
 }
 
-/// The running task is put into its lists, where it has begun to wait and isn't there yet.
+/// Puts the running task into its lists, if it has begun to wait and isn't there yet.
 fn settle_lists(machine: &mut Machine, app: &App)
     requires { (s : State) × IsState app.now s × Stands machine.old s }
     ensures { (s : State) → IsState app.now s → Stands machine.old s → Settles app.now machine.new s }
@@ -63,7 +63,7 @@ fn nobody() -> Unlocked
     }
 }
 
-/// Takes the Awake tasks out of the waiting lists, and answers them.
+/// Takes the Awake tasks out of the waiting lists, and returns them.
 fn take_awake(objects: &mut Objects) -> Unlocked
     ensures { (s : State) → ObjectsStandFor objects.old None s → AtLocked None s → IsOpened objects.new result s }
 {
@@ -200,7 +200,7 @@ fn end_state(machine: &mut Machine, app: &App) -> EndState
 
 /// The run of an application with this plan, as `run` has it, and the end state after its last step.
 ///
-/// The meter, which is below 2^62, rises by the steps of the run. `Memory` is answered only where a growth was refused.
+/// The meter, which is below 2^62, rises by the steps of the run. `Memory` is returned only if a growth was refused.
 pub fn run_to_end_state(
     alloc: Global,
     app: &App,

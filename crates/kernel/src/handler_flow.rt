@@ -35,7 +35,7 @@ pub(crate) fn isr_jump(op: &IsrOp, behind: &[IsrOp], variables: &[u32], last: Op
     }
 }
 
-/// How many `if` are open in a branch behind an op that is this to the blocks, where this many are before it; `None` where it ends the
+/// How many `if` are open in a branch after an op that is this to the blocks, if this many are before it; `None` if it ends the
 /// branch.
 #[inline(always)]
 fn inner_behind(inner: usize, edge: Edge) -> Option<usize>

@@ -1,5 +1,5 @@
-//! The steps of a call that waits, from where it decides until it has let go of the scheduler. They are done one after another,
-//! with the call in hand, and nothing is looked for in each.
+//! The steps of a call that waits, from the one in which it decides until it has let go of the scheduler. They are done one after
+//! another, with the call in hand, and none of them looks anything up.
 ghost use Rattle.std.specs.Prelude.{◌≡◌, ◌+◌, ◌≤◌, ℕ, false, List, [], None, Option, IfSome};
 ghost use Rattle.model.specs.Values.{with_number};
 ghost use Rattle.model.specs.declared.call.Phase as declared;
@@ -51,7 +51,7 @@ pub(crate) fn phase(machine: &Machine, task: TaskId) -> Phase
     machine.progress(task).call.phase
 }
 
-/// The running task, where its call has come to decide.
+/// The running task, if its call decides next.
 #[inline(always)]
 pub(crate) fn deciding(machine: &Machine) -> Option<TaskId>
     ensures current { IfSome result (λ task. machine.now.sched.current ≡ Some task) }
@@ -136,7 +136,7 @@ fn pass_phase(
     step_in_call(kernel, app, task, call.0, call.1, phase);
 }
 
-/// The same where the call has come to this phase.
+/// The same if the call has reached this phase.
 #[inline(always)]
 fn pass_if_next(
     kernel: &mut Machine,
@@ -163,11 +163,11 @@ fn pass_if_next(
     pass_phase(kernel, app, injections, task, call, next, limits);
 }
 
-/// Does the steps of the running task's call, which has come to decide, until it lets go of the scheduler next. It answers the task
-/// where the call has come to that. It does none where the plan may have an injection, or a limit may be reached, before three steps
-/// are done.
-// Before it decides the task is Ready, so the run is over only if it has been stopped, or if the task is endless and left alone; and
-// none of these steps ends it.
+/// Does the steps of the running task's call, which decides next, until it lets go of the scheduler next. Returns the task if the
+/// call has reached that phase. It does none if the plan may have an injection, or a limit may be reached, before three steps are
+/// done.
+// Before it decides the task is Ready, so the run is over only if it has been stopped, or if the task is endless and left alone;
+// and none of these steps ends it.
 #[inline(never)]
 pub(crate) fn pass_call(
     kernel: &mut Machine,
@@ -212,8 +212,8 @@ pub(crate) fn pass_call(
     Some(task)
 }
 
-/// Does the step in which the running task's call lets go of the scheduler, to which it has come along a run that isn't over (see
-/// `pass_call`). It does none where that step is of this number: there the plan may have an injection, or a limit may be reached.
+/// Does the step in which the running task's call lets go of the scheduler, after `pass_call` in a run that isn't over. It does
+/// none if that step is the one of this number: before it the plan may have an injection, or a limit may be reached.
 #[inline(always)]
 pub(crate) fn pass_leave(
     kernel: &mut Machine,

@@ -34,7 +34,7 @@ const MOST_TASKS: usize = 32;
 #[derive(Drop)]
 pub struct Kernel {
     pub(crate) machine: Machine,
-    /// Nobody behind so many tasks has done anything.
+    /// No task after so many has done anything.
     pub(crate) tasks: usize,
 }
 
@@ -89,7 +89,7 @@ impl Kernel {
     /// The kernel as it is now. It takes some 3 kB, and memory of 112 bytes for each task and of four for each item that the queues
     /// can hold.
     ///
-    /// `Memory` is answered only where a growth was refused.
+    /// `Memory` is returned only if a growth was refused.
     pub fn snapshot(&self, alloc: Global) -> Result<Snapshot, Memory>
         ensures { IfOk result (λ snapshot. snapshot ≡ self.now) }
     {
@@ -103,8 +103,8 @@ impl Kernel {
         self.machine.boxed_snapshot(alloc, self.tasks)
     }
 
-    /// Makes a snapshot that of the kernel as it is now, in the memory that it has, and more only where more tasks have done something.
-    /// `false` where that is refused, or the snapshot is of another application; then it is of no more use.
+    /// Makes a snapshot that of the kernel as it is now, in the memory that it has, and more only if more tasks have done
+    /// something. Returns `false` if that is refused, or if the snapshot is of another application; then it is of no more use.
     pub fn save(&self, snapshot: &mut Snapshot) -> bool
         ensures { result ≡ true → snapshot.new ≡ self.now }
     {
@@ -187,8 +187,7 @@ impl Kernel {
         &self.machine.objects
     }
 
-    /// The event groups, which represent each state that the kernel represents, also where a task is still to be placed in
-    /// a waiting list.
+    /// The event groups. They represent each state that the kernel represents, even if a task isn't placed in its waiting list yet.
     pub fn groups(&self) -> &Groups
         ensures stands { (s : State) → StandsFor self.now s → GroupsStandFor result.now s }
         ensures before { (task : ℕ) (list : definitions.WaitList) (s : State)
@@ -224,9 +223,8 @@ impl Kernel {
         step(&mut self.machine, app, handlers, limits, meter, log)
     }
 
-    /// The end of the run before its next step, under these limits (profile). It is the first of these that holds: a
-    /// failed `expect` or a misuse; every task but the endless ones is Ended; the ticks; the steps; stuck. `None` where
-    /// the run goes on.
+    /// The end of the run before its next step, under these limits (profile). It is the first of these that holds: a failed
+    /// `expect` or a misuse; every task but the endless ones is Ended; the ticks; the steps; stuck. `None` if the run goes on.
     #[inline(always)]
     pub fn ended(&self, app: &App, limits: &Limits) -> Option<End>
         ensures { (s : State) → Stands self.now s → result ≡ end_of app.now limits.now s }

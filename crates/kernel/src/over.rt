@@ -17,7 +17,7 @@ use machine::Machine;
 use model::{App, End, Limits, TaskId};
 
 /// Whether any task waits, for an object or for bits, or is suspended.
-// It is asked only where nobody is Ready and nobody sleeps.
+// It is asked only if no task is Ready and none sleeps.
 #[cold]
 #[inline(never)]
 pub(crate) fn has_waiter(machine: &Machine) -> bool
@@ -69,7 +69,7 @@ fn is_awaited(machine: &Machine, app: &App, task: TaskId) -> bool
     machine.groups.is_waiting(task)
 }
 
-/// Whether every task but the endless ones is Ended, and there is one, where this task runs.
+/// Whether every task but the endless ones is Ended, and there is one, if this task runs.
 #[inline(always)]
 fn are_all_ended_beside(machine: &Machine, app: &App, task: TaskId) -> bool
     ensures { (s : State) → Stands machine.now s → result ≡ are_all_ended app.now s }
@@ -152,9 +152,9 @@ pub(crate) fn is_at_tick_limit(machine: &Machine, app: &App, limits: &Limits) ->
     limits.ticks <= machine.clock.elapsed()
 }
 
-/// Whether the run is over before its next step, whatever its limit of steps. So it is where an `expect` failed or a misuse came,
-/// where every task but the endless ones is Ended, where the ticks are at their limit, or where it is stuck. The limit of ticks is
-/// looked at only where idle may jump.
+/// Whether the run is over before its next step, whatever its limit of steps: an `expect` failed or a misuse occurred, every task
+/// but the endless ones is Ended, the ticks are at their limit, or it is stuck. The limit of ticks is looked at only if idle may
+/// jump.
 #[inline(always)]
 pub(crate) fn is_over(machine: &Machine, app: &App, limits: &Limits) -> bool
     ensures { (s : State) → Stands machine.now s → result ≡ is_over app.now limits.now s }
@@ -171,7 +171,7 @@ pub(crate) fn is_over(machine: &Machine, app: &App, limits: &Limits) -> bool
     is_stuck(machine, app)
 }
 
-/// The same where this task runs: then the run isn't stuck.
+/// The same if this task runs: then the run isn't stuck.
 #[inline(always)]
 pub(crate) fn is_over_running(machine: &Machine, app: &App, task: TaskId, limits: &Limits) -> bool
     requires { machine.now.sched.current ≡ Some task }
@@ -186,9 +186,8 @@ pub(crate) fn is_over_running(machine: &Machine, app: &App, task: TaskId, limits
     is_at_tick_limit(machine, app, limits)
 }
 
-/// The end of the run before its next step, under these limits (profile). It is the first of these that holds: a
-/// failed `expect` or a misuse; every task but the endless ones is Ended; the ticks; the steps; stuck. `None` where
-/// the run goes on.
+/// The end of the run before its next step, under these limits (profile). It is the first of these that holds: a failed `expect` or
+/// a misuse; every task but the endless ones is Ended; the ticks; the steps; stuck. `None` if the run goes on.
 #[inline(always)]
 pub(crate) fn ended(machine: &Machine, app: &App, limits: &Limits) -> Option<End>
     ensures { (s : State) → Stands machine.now s → result ≡ end_of app.now limits.now s }

@@ -25,14 +25,14 @@ pub struct RestEnding {
     pub end: End,
 }
 
-/// Goes on along a run that is under way, into which no handler is injected any more, up to this step or to the run's end before it. The
-/// trail gains the events from there on, behind those that it has. Each run that was at this kernel, and into which nothing is injected
-/// from there on, whatever injections it has had, comes to where the kernel is then, with the same events on the way. The answer is how
-/// it ended there; `None` where it goes on. The log is for the events of a step; what it has doesn't matter.
+/// Continues a run that is under way, into which no handler is injected any more, up to this step or to its end before it. The
+/// trail gains the events from there on, after those that it has. Each run that was at this kernel, and into which nothing is
+/// injected from there on, whatever injections it has had, reaches the state that the kernel then has, with the same events on the
+/// way. Returns how it ended there; `None` if it goes on. The log is for the events of a step; its content doesn't matter.
 ///
-/// The meter, which is below 2^62 and the steps that the run has done, rises by the steps that are done here. At `Err(Memory)`,
-/// answered only where a growth was refused, so never where the run reports nothing, the run has come no further than to its end; the
-/// trail then has those events that it had, and some of the run's behind them.
+/// The meter, which is below 2^62 and the steps that the run has done, rises by the steps that are done here. `Err(Memory)` is
+/// returned only if a growth was refused, so never if the run reports nothing. The run has then gone no further than to its end;
+/// the trail has the events that it had, and some of the run's after them.
 pub fn go_far(
     kernel: &mut Kernel,
     app: &App,

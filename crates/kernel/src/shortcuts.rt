@@ -1,4 +1,4 @@
-//! The short cuts of a run: steps that are done one after another behind one that reported nothing, with what it did at hand.
+//! The shortcuts of a run: steps that are done one after another, following one that reported nothing, with its parts at hand.
 ghost use Rattle.std.specs.Prelude.{◌<◌, [], IfSome};
 ghost use Rattle.machine.specs.Logged.{all_of};
 ghost use Rattle.kernel.specs.Along.{IsFree, GoesOn, NoneIsOver};
@@ -12,9 +12,8 @@ use crate::suspended::go_on_while_suspended;
 use machine::{Machine, Trail};
 use model::{App, Injection, Limits, TaskId};
 
-/// Does the steps after one that reported nothing, if they are such as are done one after another (see `pass_on`), and the one
-/// in which a call lets go of the scheduler; or those that come while a `suspend_all` is in force. It does none where an op is done that
-/// nothing may follow.
+/// Does the steps after one that reported nothing, if they are such as are done one after another (see `pass_on`), and the one in
+/// which a call lets go of the scheduler; or those during a `suspend_all`. It does none after an op that nothing may follow.
 #[inline(always)]
 pub(crate) fn pass_more(
     kernel: &mut Machine,
@@ -48,9 +47,9 @@ pub(crate) fn pass_more(
     }
 }
 
-/// Does the steps after one that reported nothing, if they are such as are done one after another: those of a call that has come to
-/// decide, or those that only let a tick pass. After any other step mostly no such steps come. It answers the task where its call
-/// lets go of the scheduler next: then the run isn't over.
+/// Does the steps after one that reported nothing, if they are such as are done one after another: those of a call that decides
+/// next, or those that only let a tick pass. Most other steps are followed by none of these. Returns the task if its call lets go
+/// of the scheduler next: then the run isn't over.
 #[inline(always)]
 pub(crate) fn pass_on(
     kernel: &mut Machine,

@@ -70,8 +70,7 @@ fn current_op<'a>(machine: &Machine, app: &'a App) -> Option<(TaskId, &'a Op)>
     }
 }
 
-/// What a step does in which the running task has no op, or holds the scheduler, or idle runs. It answers what may come behind it
-/// (`pass_more`).
+/// What a step does if the running task has no op, or holds the scheduler, or idle runs. Returns what may follow (`pass_more`).
 #[inline(always)]
 fn act_otherwise<L: Log>(
     machine: &mut Machine,
@@ -97,7 +96,7 @@ fn act_otherwise<L: Log>(
     Following::Nothing
 }
 
-/// What a step does: the running task's op, or idle. It answers what may come behind it (`pass_more`).
+/// What a step does: the running task's op, or idle. Returns what may follow (`pass_more`).
 #[inline(always)]
 fn act_current<L: Log>(machine: &mut Machine, app: &App, limits: &Limits, log: &mut L) -> Following
     requires room { 337 ≤ (L.logged log.old).room }
@@ -141,8 +140,8 @@ fn step_with_handlers<L: Log>(
     came
 }
 
-/// One step of the run, without handlers and with nothing pending. Its events go to a log that has none of this step yet. It answers what
-/// may come behind it (`pass_more`).
+/// One step of the run, without handlers and with nothing pending. Its events go to a log that has none of this step yet. Returns
+/// what may follow (`pass_more`).
 #[inline(never)]
 fn step_alone<L: Log>(machine: &mut Machine, app: &App, limits: &Limits, log: &mut L) -> Following
     requires going { CanStep app.now limits.now machine.old }
@@ -154,7 +153,7 @@ fn step_alone<L: Log>(machine: &mut Machine, app: &App, limits: &Limits, log: &m
     ensures before { (L.logged log.new).before ≡ (L.logged log.old).before }
 {
     app.well_formed();
-    // The end of the step is here twice, so that nothing is asked behind an op that nothing may follow.
+    // The end of the step is here twice, so that nothing is asked after an op that nothing may follow.
     let following = act_current(machine, app, limits, log);
     if following == Following::Nothing {
         machine.settle(log);
@@ -166,8 +165,8 @@ fn step_alone<L: Log>(machine: &mut Machine, app: &App, limits: &Limits, log: &m
     following
 }
 
-/// One step of the run without handlers and with nothing pending, in which the running task does this op. Its events go to a log that has
-/// none of this step yet. It answers what may come behind it (`pass_more`).
+/// One step of the run without handlers and with nothing pending, in which the running task does this op. Its events go to a log
+/// that has none of this step yet. Returns what may follow (`pass_more`).
 #[inline(always)]
 fn step_at<L: Log>(
     machine: &mut Machine,
@@ -197,8 +196,8 @@ fn step_at<L: Log>(
 {
     app.well_formed();
     let _ = limits;
-    // The end of the step is in each arm, so that what may follow is known behind it and isn't asked again, and no switch is looked for
-    // behind an op that only takes its task to another op, or whose call holds the scheduler.
+    // The end of the step is in each arm, so that the compiler knows there what may follow and doesn't ask again, and no switch is
+    // looked for after an op that only takes its task to another op, or whose call holds the scheduler.
     match act(machine, app, task, op, log) {
         Following::Steps => {
             machine.settle(log);
@@ -230,8 +229,8 @@ fn step_at<L: Log>(
     }
 }
 
-/// One step of the run without handlers and with nothing pending, where something holds the scheduler or idle runs. Its events go to a log
-/// that has none of this step yet. It answers what may come behind it (`pass_more`).
+/// One step of the run without handlers and with nothing pending, if something holds the scheduler or idle runs. Its events go to a
+/// log that has none of this step yet. Returns what may follow (`pass_more`).
 #[inline(always)]
 fn step_otherwise<L: Log>(
     machine: &mut Machine,
@@ -286,9 +285,9 @@ pub(crate) fn step(
     came
 }
 
-/// The running task and the op that it is at, if nothing holds the scheduler in a state that a run comes to. Where something holds it,
-/// or idle runs, it answers any task and no op; and where the run is over, nothing at all. A task that runs while nothing holds the
-/// scheduler is Ready, so the run is over only if it has been stopped, or that task is endless and left alone.
+/// The running task and its op, if nothing holds the scheduler in a state of a run. If something holds it, or idle runs, it returns
+/// some task and no op; if the run is over, nothing at all. A task that runs while nothing holds the scheduler is Ready, so the run
+/// is over only if it has been stopped, or if that task is endless and left alone.
 #[inline(always)]
 fn op_if_going<'a>(
     machine: &Machine,
@@ -325,9 +324,9 @@ fn op_if_going<'a>(
     Some((task, op_of(app, task, machine.progress(task).op_index)))
 }
 
-/// One step of the run, whose events go to this log first, in place of what it has: memory is taken only for those that the step
-/// reports. So it is done where the trail has less room than a step may need, and where handlers come before it, or what is pending, as
-/// they do before few. `Err(Memory)` is answered only where the trail had less room for them and that growth was refused. The step is done all the
+/// One step of the run, whose events go to this log first, in place of its content: memory is taken only for those that the step
+/// reports. It is used if the trail has less room than a step may need, and for the few steps before which handlers or pending ones
+/// come. `Err(Memory)` is returned only if the trail had less room for them and that growth was refused. The step is done all the
 /// same.
 #[cold]
 #[inline(never)]
@@ -359,8 +358,8 @@ fn step_apart(
     trail.append(log.as_slice())
 }
 
-/// One step of the run, after these handlers, whose events go to the end of the trail. `Err(Memory)` is answered only where a
-/// growth was refused, so never where the step reports nothing. The step is done all the same.
+/// One step of the run, after these handlers, whose events go to the end of the trail. `Err(Memory)` is returned only if a growth
+/// was refused, so never if the step reports nothing. The step is done all the same.
 #[inline(always)]
 pub(crate) fn step_along(
     kernel: &mut Machine,
@@ -391,7 +390,7 @@ pub(crate) fn step_along(
     step_apart(kernel, app, handlers, limits, meter, log, trail)
 }
 
-/// The handlers of a plan's injections at this step, where these injections are those from this step on.
+/// The handlers of a plan's injections at this step. These injections are those from this step on.
 fn handlers_at(injections: &[Injection], step: u32) -> Injected
     requires order { Rises (λ (i : definitions.Injection). i.step) injections.now }
     requires left { AllByRecursion (λ (i : definitions.Injection). step ≤ i.step) injections.now }
@@ -408,8 +407,8 @@ fn handlers_at(injections: &[Injection], step: u32) -> Injected
     handlers
 }
 
-/// One step of the run, after the handlers of those injections that are at it: these injections are those from this step on. It
-/// answers the injections after it.
+/// One step of the run, after the handlers of the injections at it: these injections are those from this step on. Returns the
+/// injections after it.
 #[inline(always)]
 fn step_by_plan<'a>(
     kernel: &mut Machine,
@@ -453,10 +452,10 @@ pub(crate) fn count_steps(meter: &mut Meter, steps: u32)
     }
 }
 
-/// Does the steps in which the running task only goes on amid its script, beginning with this op, and the next one, which does more;
-/// where in that one it begins to set bits or to wait for some, also the one in which its call lets go of the scheduler. It does none from the step
-/// before `until` on. The run is under way, and isn't over; the trail has no event of this step yet. It answers
-/// what may come behind the last of them (`pass_more`).
+/// Does the steps in which the running task only goes on in its script, beginning with this op, and the next one, which does more.
+/// If that one begins to set bits or to wait for some, it also does the one in which its call lets go of the scheduler. It does
+/// none from the step before `until` on. The run is under way, and isn't over; the trail has no event of this step yet. Returns
+/// what may follow the last of them (`pass_more`).
 #[inline(always)]
 fn step_along_script(
     kernel: &mut Machine,
@@ -508,9 +507,9 @@ fn step_along_script(
     }
 }
 
-/// Does a step where something holds the scheduler or idle runs, and those that come while a task holds it. It does none from
-/// the step before `until` on. The run is under way, and isn't over; the trail has no event of this step yet. It answers what may come
-/// behind the last of them (`pass_more`).
+/// Does a step in which something holds the scheduler or idle runs, and those during which a task holds it. It does none from the
+/// step before `until` on. The run is under way, and isn't over; the trail has no event of this step yet. Returns what may follow
+/// the last of them (`pass_more`).
 // Most steps are none of these, and are the faster without them.
 #[inline(never)]
 fn steps_otherwise(
@@ -538,9 +537,9 @@ fn steps_otherwise(
     following
 }
 
-/// Does the next step, and those before it in which the running task only goes on amid its script. It does none from the step before
-/// `until` on. The running task is at this op, if at any, the run is under way, and isn't over; the trail has no event of this step yet. It
-/// answers what may come behind the last of them (`pass_more`).
+/// Does the next step, and those before it in which the running task only goes on in its script. It does none from the step before
+/// `until` on. The running task is at this op, if it has one. The run is under way, and isn't over; the trail has no event of this
+/// step yet. Returns what may follow the last of them (`pass_more`).
 #[inline(always)]
 fn step_on(
     kernel: &mut Machine,
@@ -571,7 +570,7 @@ fn step_on(
     }
 }
 
-/// Goes on as `go_on` does, but counts nothing. It also stops before the last step, so that two steps may be done at once, and where
+/// Goes on as `go_on` does, but counts nothing. It also stops before the last step, so that two steps may be done at once, and if
 /// the trail has less room than a step may need and gets no more.
 #[inline(never)]
 fn go_on_in_room(
@@ -643,8 +642,8 @@ pub(crate) fn go_on(
     }
 }
 
-/// Goes on along a run that is under way, up to this step or to the run's end before it, and keeps the events from there on. These
-/// injections are its plan, all of them still to come. It answers how the run ends there; `None` where it goes on.
+/// Continues a run that is under way, up to this step or to its end before it, and keeps the events from there on. These injections
+/// are those of its plan that are left. Returns how the run ends there; `None` if it goes on.
 pub(crate) fn go_to_step(
     kernel: &mut Machine,
     app: &App,
@@ -724,11 +723,11 @@ pub(crate) fn finish(
     }
 }
 
-/// The run of an application with this plan, from reset to its end under these limits. An injection of the plan past the end of
-/// the run does nothing.
+/// The run of an application with this plan, from reset to its end under these limits. An injection of the plan past the end of the
+/// run does nothing.
 ///
-/// The meter, which is below 2^62, rises by the steps of the run. `Err(Memory)` is answered only where a growth was
-/// refused, so never where the run reports nothing. The meter has then risen by no more than that.
+/// The meter, which is below 2^62, rises by the steps of the run. `Err(Memory)` is returned only if a growth was refused, so never
+/// if the run reports nothing. The meter has then risen by no more than that.
 pub fn run(
     alloc: Global,
     app: &App,

@@ -112,7 +112,7 @@ fn judge(machine: &mut Machine, task: TaskId, op_index: u16)
     }
 }
 
-/// `suspend_all` where no task holds the scheduler, at the end of which the task is judged.
+/// `suspend_all` while no task holds the scheduler. The task is judged at the end of the step.
 #[cold]
 pub(crate) fn call_suspend_all<L: Log>(machine: &mut Machine, app: &App, task: TaskId, log: &mut L)
     requires room { 1 ≤ (L.logged log.old).room }
@@ -125,7 +125,7 @@ pub(crate) fn call_suspend_all<L: Log>(machine: &mut Machine, app: &App, task: T
     judge(machine, task, op_index);
 }
 
-/// `enter_critical` where no task holds the scheduler, at the end of which the task is judged.
+/// `enter_critical` while no task holds the scheduler. The task is judged at the end of the step.
 #[inline(never)]
 pub(crate) fn call_enter_critical(machine: &mut Machine, app: &App, task: TaskId)
     requires { Can app.now machine.old task op.EnterCritical }
@@ -186,7 +186,7 @@ fn act_on<L: Log>(machine: &mut Machine, app: &App, task: TaskId, op: &Op, log: 
         Op::End => {
             close_turn(machine, app, task);
         }
-        Op::If(condition) => {
+        Op::If(ref condition) => {
             branch(machine, app, task, condition);
         }
         Op::Else => {

@@ -11,7 +11,8 @@ pub(crate) fn word_of(first: u16, second: u16, third: u16, fourth: u16) -> u64
 }
 
 /// Whether two lists of numbers are the same. It looks at all of them, whatever it finds, so that many are compared at a time.
-#[inline(always)]
+// Called from many places: once in the program, it takes little of the cache of instructions.
+#[inline(never)]
 pub fn are_same(numbers: &[u16], others: &[u16]) -> bool
     ensures { result ≡ true → numbers.now ≡ others.now }
 {
@@ -27,7 +28,8 @@ pub fn are_same(numbers: &[u16], others: &[u16]) -> bool
 }
 
 /// As `are_same`, of numbers of four bytes.
-#[inline(always)]
+// Called from many places: once in the program, it takes little of the cache of instructions.
+#[inline(never)]
 pub(crate) fn are_same_values(values: &[u32], others: &[u32]) -> bool
     ensures { result ≡ true → values.now ≡ others.now }
 {
@@ -88,7 +90,8 @@ pub fn first_nonzero(numbers: &[u16], from: usize) -> usize
 }
 
 /// Whether two lists of bytes are the same. It looks at all of them, whatever it finds, so that many are compared at a time.
-#[inline(always)]
+// Called from many places: once in the program, it takes little of the cache of instructions.
+#[inline(never)]
 pub fn are_same_bytes(bytes: &[u8], others: &[u8]) -> bool
     ensures { result ≡ true → bytes.now ≡ others.now }
 {

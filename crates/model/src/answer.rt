@@ -19,18 +19,19 @@ pub enum AnswerCondition {
 
 impl AnswerCondition {
     /// Whether it holds of this answer, by these variables.
+    // It is lent, as its values are.
     #[inline]
-    pub fn holds(self, variables: &[u32], answer: Option<u32>) -> bool
-        ensures { result ≡ holds variables.now self answer }
+    pub fn holds(&self, variables: &[u32], answer: Option<u32>) -> bool
+        ensures { result ≡ holds variables.now self.now answer }
     {
-        match self {
-            AnswerCondition::Is(wanted) => equals(wanted, variables, answer),
-            AnswerCondition::IsNot(other) => !equals(other, variables, answer),
-            AnswerCondition::Below(bound) => match answer {
+        match *self {
+            AnswerCondition::Is(ref wanted) => equals(wanted, variables, answer),
+            AnswerCondition::IsNot(ref other) => !equals(other, variables, answer),
+            AnswerCondition::Below(ref bound) => match answer {
                 Some(number) => number < bound.number(variables, answer),
                 None => false,
             },
-            AnswerCondition::Above(bound) => match answer {
+            AnswerCondition::Above(ref bound) => match answer {
                 Some(number) => number > bound.number(variables, answer),
                 None => false,
             },
@@ -39,12 +40,12 @@ impl AnswerCondition {
 }
 
 // Whether the answer is this value; `None` is the answer `none`.
-#[inline]
-fn equals(wanted: Option<Value>, variables: &[u32], answer: Option<u32>) -> bool
-    ensures { result ≡ equals variables.now answer wanted }
+#[inline(always)]
+fn equals(wanted: &Option<Value>, variables: &[u32], answer: Option<u32>) -> bool
+    ensures { result ≡ equals variables.now answer wanted.now }
 {
-    match wanted {
-        Some(value) => answer == value.get(variables, answer),
+    match *wanted {
+        Some(ref value) => answer == value.get(variables, answer),
         None => answer.is_none(),
     }
 }

@@ -17,11 +17,12 @@ impl Value {
     ghost use Rattle.model.specs.Values.{is_missing, number_of, value_of};
 
     /// The value by these variables and this last answer; `None` if it is the last answer, and that is `none`.
-    #[inline]
-    pub fn get(self, variables: &[u32], answer: Option<u32>) -> Option<u32>
-        ensures { result ≡ value_of variables.now answer self }
+    // It is lent, and so never copied to a place on the stack.
+    #[inline(always)]
+    pub fn get(&self, variables: &[u32], answer: Option<u32>) -> Option<u32>
+        ensures { result ≡ value_of variables.now answer self.now }
     {
-        match self {
+        match *self {
             Value::Number(number) => Some(number),
             Value::Answer => answer,
             Value::Variable(variable) => Some(variable.get(variables)),
@@ -37,9 +38,9 @@ impl Value {
     }
 
     /// The same number as that of `get`; 0 if there is none.
-    #[inline]
-    pub fn number(self, variables: &[u32], answer: Option<u32>) -> u32
-        ensures { result ≡ number_of variables.now answer self }
+    #[inline(always)]
+    pub fn number(&self, variables: &[u32], answer: Option<u32>) -> u32
+        ensures { result ≡ number_of variables.now answer self.now }
     {
         self.get(variables, answer).unwrap_or(0)
     }

@@ -186,13 +186,16 @@ impl Objects {
     }
 
     /// A number that objects have in common which are the same (`is_at`), and many others don't: it is made of how many items each
-    /// queue has, and of the counts of the semaphores. It is a hint, on which nothing rests.
+    /// queue has, of its first item, and of the counts of the semaphores. It is a hint, on which nothing rests.
     pub fn hint(&self) -> u64 {
         let mut hint: u64 = 0;
         for object in 0..(self.number as usize).min(OBJECTS) {
             let counts = self.items.len(object) as u64
                 | (self.semaphores.count(object) as u64) << 32;
-            hint = hint.rotate_left(7).wrapping_add(counts);
+            let first = self.items.first(object).unwrap_or(0) as u64;
+            hint = hint
+                .rotate_left(7)
+                .wrapping_add(counts ^ first.rotate_left(9));
         }
         hint
     }

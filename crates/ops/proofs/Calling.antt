@@ -17,12 +17,13 @@ use Rattle.machine.specs.StandsFor.{Stands, At, AtAny, decider, DoesAny, progres
 use Rattle.machine.specs.StandsFor.Stands.{Placed, Placing}
 use Rattle.machine.specs.Can.{HasRoom, StandsForSome, Leaves}
 use Rattle.ops.specs.Can.{IsCaller}
+use Rattle.ops.specs.InCall.{without_item}
 use Rattle.ops.proofs.Before.{stored_before}
 use Rattle.machine.proofs.Either.{any, either, progress_is}
 use Rattle.ops.proofs.Waits.{stored_at}
 use Rattle.model.specs.declared.call.Phase.{Phase}
 use Rattle.model.specs.Application.{Application}
-use Rattle.model.specs.Calls.{await}
+use Rattle.model.specs.Calls.{await, decide}
 use Rattle.machine.specs.Logged.{Logged}
 use Rattle.std.proofs.Common.{◌+◌, get_or, slice_set, option_map}
 use Rattle.model.specs.declared.value.Value.{Value}
@@ -44,6 +45,50 @@ answers k s o a given h e = e ∙ ap (λ (x : Object). reply x a) (objects_are k
 pub is_possible : (k : Machine) (s : State) (o : ℕ) (a : Access ℕ) (b : Bool)
     → Stands k s → allows (object_in k.objects.objects o) a ≡ b → possible s o a ≡ b
 is_possible k s o a b h e = ap (λ (x : Object). allows x a) (sym (objects_are k s h o)) ∙ e
+
+-- ---- what doesn't depend on a call's item
+
+allowed_alike : (o : Object) (variables : List ℕ) (answer : Option ℕ) (a : Access Value)
+    → allows o (without_item a) ≡ allows o (with_number variables answer a)
+allowed_alike o variables answer (Send v) = refl
+allowed_alike o variables answer (SendFront v) = refl
+allowed_alike o variables answer (Overwrite v) = refl
+allowed_alike o variables answer Receive = refl
+allowed_alike o variables answer Peek = refl
+allowed_alike o variables answer Take = refl
+allowed_alike o variables answer Give = refl
+allowed_alike o variables answer Lock = refl
+
+-- whether it is possible
+pub allowed_by_number : (o : Object) (variables : List ℕ) (answer : Option ℕ) (a : Access Value) (any_item : Access ℕ) (b : Bool)
+    → any_item ≡ without_item a → allows o any_item ≡ b → allows o (with_number variables answer a) ≡ b
+allowed_by_number o variables answer a any_item b e h =
+    sym (allowed_alike o variables answer a) ∙ ap (λ (x : Access ℕ). allows o x) (sym e) ∙ h
+
+-- what it answers if it is not
+pub replied_alike : (o : Object) (variables : List ℕ) (answer : Option ℕ) (a : Access Value)
+    → reply o (without_item a) ≡ reply o (with_number variables answer a)
+replied_alike o variables answer (Send v) = refl
+replied_alike o variables answer (SendFront v) = refl
+replied_alike o variables answer (Overwrite v) = refl
+replied_alike o variables answer Receive = refl
+replied_alike o variables answer Peek = refl
+replied_alike o variables answer Take = refl
+replied_alike o variables answer Give = refl
+replied_alike o variables answer Lock = refl
+
+-- and how it decides
+pub decided_alike : (task object : ℕ) (variables : List ℕ) (answer : Option ℕ) (a : Access Value) (s : State)
+    → decide task object (without_item a) s ≡ decide task object (with_number variables answer a) s
+unfolding decide
+decided_alike task object variables answer (Send v) s = refl
+decided_alike task object variables answer (SendFront v) s = refl
+decided_alike task object variables answer (Overwrite v) s = refl
+decided_alike task object variables answer Receive s = refl
+decided_alike task object variables answer Peek s = refl
+decided_alike task object variables answer Take s = refl
+decided_alike task object variables answer Give s = refl
+decided_alike task object variables answer Lock s = refl
 
 -- ---- for what there is room
 

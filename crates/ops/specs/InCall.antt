@@ -1,16 +1,30 @@
--- The phases of a call in which it reports nothing.
+-- A call that waits: what it is whatever its item, and the phases in which it reports nothing.
 use Rattle.std.specs.Prelude.{◌≡◌, ◌||◌, ℕ, false, Option, Some, nat_eq}
 use Rattle.std.specs.Option.{option_eq}
 use Rattle.model.specs.declared.call.Condition.{Condition}
 use Rattle.model.specs.declared.call.Phase.{Phase}
 use Rattle.model.specs.declared.call.Phase.TheVariants.{Decide, Place, Unlock, Leave}
 use Rattle.model.specs.declared.notification.NotificationWait.{NotificationWait}
+use Rattle.model.specs.declared.op.Access.{Access}
+use Rattle.model.specs.declared.op.Access.TheVariants.{Send, SendFront, Overwrite, Receive, Peek, Take, Give, Lock}
+use Rattle.model.specs.declared.value.Value.{Value}
 use Rattle.model.specs.Groups.{is_met}
 use Rattle.model.specs.Notifications.{entered, is_there}
 use Rattle.model.specs.State.{State, bits_at, notification_at, with_notification}
 use Rattle.machine.specs.declared.machine.Machine.{Machine}
 use Rattle.machine.specs.Can.{Agrees}
 use Rattle.machine.specs.StandsFor.{StandsFor, progress_in}
+
+-- The call with 0 for its item: what doesn't depend on the item is that of the call.
+abbrev pub without_item : Access Value → Access ℕ
+without_item (Send value) = Send 0
+without_item (SendFront value) = SendFront 0
+without_item (Overwrite value) = Overwrite 0
+without_item Receive = Receive
+without_item Peek = Peek
+without_item Take = Take
+without_item Give = Give
+without_item Lock = Lock
 
 -- In these phases a call reports nothing, and holds the scheduler after each.
 abbrev pub IsSilent : Phase → Type 0

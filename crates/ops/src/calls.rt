@@ -19,7 +19,7 @@ ghost use Rattle.ops.specs.Can.{CanTry, CanDecide, CanPlace, CanLeave, CanGoOn};
 use crate::holds::end_hold;
 use crate::mutexes::{after_timeout, inherit};
 use crate::queues::{fulfil, refusal};
-use crate::values::{begins_without_item, call_with_number, fail_check};
+use crate::values::{begins_without_item, call_with_number, fail_check, without_item};
 use machine::{Log, Machine, NO_WAIT_LIST, place_sleeper, wake_all};
 use model::{Access, App, ObjectId, Phase, TaskId, Value, WaitList};
 
@@ -43,28 +43,33 @@ fn is_expired(machine: &Machine, task: TaskId) -> bool
     }
 }
 
-/// The call is done if it is possible; it fails if its deadline has come; otherwise it decides next.
+/// A call whose item is a value, which isn't missing, is done if it is possible; it fails if its deadline has come; otherwise it
+/// decides next.
+// Whether it is possible is asked first, so that the compiler goes from what the call asks to what it does at once.
 #[inline(always)]
 fn try_call<L: Log>(
     machine: &mut Machine,
     app: &App,
     task: TaskId,
     object: ObjectId,
-    access: Access<u32>,
+    access: &Access<Value>,
     log: &mut L,
 )
     requires room { 2 ≤ (L.logged log.old).room }
-    requires can { CanTry machine.old task object access }
+    requires can { (variables : List ℕ) (answer : Option ℕ)
+        → CanTry machine.old task object (with_number variables answer access.now) }
     ensures { Does 2 machine.old (L.logged log.old) machine.new (L.logged log.new)
-        (try app.now task object access) }
+        (λ s. try app.now task object (call_with_number s task access.now) s) }
 {
-    if machine.objects.possible(object, access) {
+    let any_item = without_item(access);
+    if machine.objects.possible(object, any_item) {
+        let access = call_with_number(machine, task, access);
         let answer = fulfil(machine, Some(task), object, access);
         machine.answer_given(app, task, answer, log);
         machine.preempt(log);
     } else if is_expired(machine, task) {
         after_timeout(machine, task, object);
-        machine.answer_given(app, task, refusal(access), log);
+        machine.answer_given(app, task, refusal(any_item), log);
     } else {
         machine.set_phase(task, Phase::Decide);
     }
@@ -222,21 +227,24 @@ pub fn go_on_silently(
     }
 }
 
-/// The next phase of a call that may wait for this many ticks, or forever.
+/// The next phase of a call that may wait for this many ticks, or forever, and whose item is a value, which isn't missing if the call
+/// begins.
 #[inline(always)]
 pub fn go_on_waiting<L: Log>(
     machine: &mut Machine,
     app: &App,
     task: TaskId,
     object: ObjectId,
-    access: Access<u32>,
+    access: &Access<Value>,
     ticks: Option<u32>,
     log: &mut L,
 )
     requires room { 2 ≤ (L.logged log.old).room }
-    requires can { CanGoOn machine.old task object access ticks (progress_in machine.old.progress task).call.phase }
+    requires can { (variables : List ℕ) (answer : Option ℕ)
+        → CanGoOn machine.old task object (with_number variables answer access.now) ticks
+        (progress_in machine.old.progress task).call.phase }
     ensures { DoesAny 2 machine.old (L.logged log.old) machine.new (L.logged log.new)
-        (λ s. await app.now task object access ticks (call_at s task).phase s) }
+        (λ s. await app.now task object (call_with_number s task access.now) ticks (call_at s task).phase s) }
 {
     match machine.progress(task).call.phase {
         Phase::Start => {
@@ -244,63 +252,7 @@ pub fn go_on_waiting<L: Log>(
             try_call(machine, app, task, object, access, log);
         }
         Phase::Try => try_call(machine, app, task, object, access, log),
-        Phase::Decide => decide(machine, task, object, access),
-        Phase::Place => place(machine, task),
-        Phase::Unlock => unlock(machine, task),
-        Phase::Leave => leave_call(machine, task, log),
-    }
-}
-
-/// A call whose item is a value, which isn't missing, is done if it is possible; it fails if its deadline has come; otherwise it
-/// decides next.
-#[inline(always)]
-fn try_by_value<L: Log>(
-    machine: &mut Machine,
-    app: &App,
-    task: TaskId,
-    object: ObjectId,
-    access: Access<Value>,
-    log: &mut L,
-)
-    requires room { 2 ≤ (L.logged log.old).room }
-    requires can { (variables : List ℕ) (answer : Option ℕ)
-        → CanTry machine.old task object (with_number variables answer access) }
-    ensures { Does 2 machine.old (L.logged log.old) machine.new (L.logged log.new)
-        (λ s. try app.now task object (call_with_number s task access) s) }
-{
-    let access = call_with_number(machine, task, access);
-    try_call(machine, app, task, object, access, log);
-}
-
-/// The next phase of a call whose item is a value, which isn't missing if the call begins.
-// The number is found in an arm, so that the compiler goes from the access to what that does at once.
-#[inline(always)]
-fn go_on_by_number<L: Log>(
-    machine: &mut Machine,
-    app: &App,
-    task: TaskId,
-    object: ObjectId,
-    access: Access<Value>,
-    ticks: Option<u32>,
-    log: &mut L,
-)
-    requires room { 2 ≤ (L.logged log.old).room }
-    requires can { (variables : List ℕ) (answer : Option ℕ)
-        → CanGoOn machine.old task object (with_number variables answer access) ticks
-        (progress_in machine.old.progress task).call.phase }
-    ensures { DoesAny 2 machine.old (L.logged log.old) machine.new (L.logged log.new)
-        (λ s. await app.now task object (call_with_number s task access) ticks (call_at s task).phase s) }
-{
-    match machine.progress(task).call.phase {
-        Phase::Start => {
-            machine.set_deadline(task, ticks);
-            try_by_value(machine, app, task, object, access, log);
-        }
-        Phase::Try => try_by_value(machine, app, task, object, access, log),
-        Phase::Decide => {
-            let access = call_with_number(machine, task, access);
-            decide(machine, task, object, access);
-        }
+        Phase::Decide => decide(machine, task, object, without_item(access)),
         Phase::Place => place(machine, task),
         Phase::Unlock => unlock(machine, task),
         Phase::Leave => leave_call(machine, task, log),
@@ -314,20 +266,20 @@ pub fn go_on_by_value<L: Log>(
     app: &App,
     task: TaskId,
     object: ObjectId,
-    access: Access<Value>,
+    access: &Access<Value>,
     ticks: Option<u32>,
     log: &mut L,
 )
     requires room { 2 ≤ (L.logged log.old).room }
     requires can { (variables : List ℕ) (answer : Option ℕ)
-        → CanGoOn machine.old task object (with_number variables answer access) ticks
+        → CanGoOn machine.old task object (with_number variables answer access.now) ticks
         (progress_in machine.old.progress task).call.phase }
     ensures { DoesAny 2 machine.old (L.logged log.old) machine.new (L.logged log.new)
-        (act_by_value app.now task (op.Await object access ticks)) }
+        (act_by_value app.now task (op.Await object access.now ticks)) }
 {
     if begins_without_item(machine, task, access) {
         fail_check(machine, task);
         return;
     }
-    go_on_by_number(machine, app, task, object, access, ticks, log);
+    go_on_waiting(machine, app, task, object, access, ticks, log);
 }

@@ -60,7 +60,7 @@ pub fn next_command<L: Log>(
         Phase::Start => take_command(machine, app, task, queue, log),
         Phase::Try => take_command(machine, app, task, queue, log),
         _ => {
-            go_on_waiting(machine, app, task, queue, Access::Receive, None, log);
+            go_on_waiting(machine, app, task, queue, &Access::Receive, None, log);
             false
         }
     }

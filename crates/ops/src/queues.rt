@@ -1,18 +1,18 @@
 //! Calls on queues and semaphores that don't wait, and the parts of those that do.
-ghost use Rattle.std.specs.Prelude.{◌≡◌, ◌≤◌, ℕ, Some, true, false};
+ghost use Rattle.std.specs.Prelude.{◌≡◌, ◌≤◌, ℕ, List, Option, Some, true, false};
 ghost use Rattle.model.specs.declared.op.Op.TheVariants as op;
 ghost use Rattle.model.specs.State.{State, Object};
 ghost use Rattle.model.specs.Waiting.{wake_best};
 ghost use Rattle.model.specs.Objects as definitions;
 ghost use Rattle.model.specs.Objects.{allows, answer_to, attempt, fulfil, reply};
-ghost use Rattle.model.specs.Calls.{do_now};
-ghost use Rattle.model.specs.Step.{act, act_by_value};
+ghost use Rattle.model.specs.Step.{act, act_by_value, call_with_number};
+ghost use Rattle.model.specs.Values.{with_number};
 ghost use Rattle.objects.specs.Items.{object_in};
 ghost use Rattle.machine.specs.StandsFor.{Stands, Does, IsPlaced, Moves, MovesAny};
 ghost use Rattle.machine.specs.Can.{HasRoom, Leaves, Runs, StandsForSome};
-ghost use Rattle.ops.specs.Can.{Can, CanTick, IsCaller};
+ghost use Rattle.ops.specs.Can.{Can, IsCaller};
 
-use crate::values::{call_with_number, fail_check, lacks_item};
+use crate::values::{call_with_number, fail_check, lacks_item, without_item};
 use machine::{Log, Machine};
 use model::{Access, App, ObjectId, TaskId, Value, WaitList};
 
@@ -110,48 +110,55 @@ pub fn attempt(
     }
 }
 
-/// `overwrite` and `give`: the call is done if it is possible, and is complete.
+/// A task's call whose item is a value, which isn't missing, is done if it is possible. Returns the call's result.
+// Whether it is possible is asked first, so that the compiler goes from what the call asks to what it does at once.
+#[inline(always)]
+fn attempt_by_value(
+    machine: &mut Machine,
+    task: TaskId,
+    object: ObjectId,
+    access: &Access<Value>,
+) -> Option<u32>
+    requires stands { StandsForSome machine.old }
+    requires caller { IsCaller machine.old (Some task) }
+    requires room { (variables : List ℕ) (answer : Option ℕ)
+        → HasRoom machine.old object (with_number variables answer access.now) }
+    ensures does { Moves machine.old machine.new (λ s. attempt (Some task) object (call_with_number s task access.now) s) }
+    ensures answer { (s : State) → Stands machine.old s → result ≡ answer_to s object (call_with_number s task access.now) }
+    ensures leaves { Leaves machine.old machine.new }
+    ensures runs { (task : ℕ) → Runs machine.old task → Runs machine.new task }
+{
+    let any_item = without_item(access);
+    if machine.objects.possible(object, any_item) {
+        let access = call_with_number(machine, task, access);
+        fulfil(machine, Some(task), object, access)
+    } else {
+        refusal(any_item)
+    }
+}
+
+/// `overwrite` and `give`: the call is done if it is possible, and is complete. The check fails if its item is missing.
 #[inline(always)]
 pub fn do_now<L: Log>(
     machine: &mut Machine,
     app: &App,
     task: TaskId,
     object: ObjectId,
-    access: Access<u32>,
+    access: &Access<Value>,
     log: &mut L,
 )
     requires room { 2 ≤ (L.logged log.old).room }
-    requires tick { CanTick app.now machine.old }
-    requires runs { Runs machine.old task }
-    requires object { HasRoom machine.old object access }
-    ensures { Does 2 machine.old (L.logged log.old) machine.new (L.logged log.new) (do_now app.now task object access) }
-{
-    let answer = attempt(machine, Some(task), object, access);
-    machine.answer_given(app, task, answer, log);
-    machine.preempt(log);
-}
-
-/// The same of a call whose item is a value. The check fails if that is missing.
-#[inline(never)]
-pub fn do_by_value<L: Log>(
-    machine: &mut Machine,
-    app: &App,
-    task: TaskId,
-    object: ObjectId,
-    access: Access<Value>,
-    log: &mut L,
-)
-    requires room { 2 ≤ (L.logged log.old).room }
-    requires can { Can app.now machine.old task (op.Do object access) }
+    requires can { Can app.now machine.old task (op.Do object access.now) }
     ensures { Does 2 machine.old (L.logged log.old) machine.new (L.logged log.new)
-        (act_by_value app.now task (op.Do object access)) }
+        (act_by_value app.now task (op.Do object access.now)) }
 {
     if lacks_item(machine, task, access) {
         fail_check(machine, task);
         return;
     }
-    let access = call_with_number(machine, task, access);
-    do_now(machine, app, task, object, access, log);
+    let answer = attempt_by_value(machine, task, object, access);
+    machine.answer_given(app, task, answer, log);
+    machine.preempt(log);
 }
 
 /// `waiting`: the number of items in a queue is the result. Returns whether the task's script goes on.

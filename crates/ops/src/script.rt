@@ -1,5 +1,5 @@
-//! Ops of the script alone: marks, expectations, loops, branches (profile). They answer whether they did no more than to take the task to
-//! another op of its script, whatever they reported.
+//! Ops of the script alone: marks, expectations, loops, branches (profile). Each returns whether it only took the task to another
+//! op of its script, whatever it reported.
 ghost use Rattle.std.specs.Prelude.{◌≡◌, ◌<◌, ◌≤◌, ◌+◌, true, length};
 ghost use Rattle.model.specs.declared.op.Op.TheVariants as op;
 ghost use Rattle.model.specs.Ops.{expect, open_loop, close_turn, complete, branch, skip_branch, leave_loop};
@@ -113,9 +113,9 @@ fn jump_from(machine: &Machine, app: &App, task: TaskId) -> u16
 
 /// `if`: the first branch is next if the condition holds of the last answer, and otherwise what follows it.
 #[inline(always)]
-pub fn branch(machine: &mut Machine, app: &App, task: TaskId, condition: AnswerCondition) -> bool
+pub fn branch(machine: &mut Machine, app: &App, task: TaskId, condition: &AnswerCondition) -> bool
     requires runs { Runs machine.old task }
-    ensures does { Moves machine.old machine.new (branch app.now task condition) }
+    ensures does { Moves machine.old machine.new (branch app.now task condition.now) }
     ensures amid { result ≡ true → IsPlaced machine.old machine.new task }
 {
     let answer = machine.progress(task).answer;

@@ -53,8 +53,8 @@ pub fn resume(machine: &mut Machine, task: TaskId) -> bool
     resumed
 }
 
-/// `suspend`: the answer is whether it did something. Of a task that suspends itself with its last op nothing is left to
-/// suspend.
+/// `suspend`: its result is whether it did something. A task that suspends itself with its last op has nothing left to be
+/// suspended.
 pub fn call_suspend<L: Log>(
     machine: &mut Machine,
     app: &App,
@@ -73,7 +73,7 @@ pub fn call_suspend<L: Log>(
     machine.preempt(log);
 }
 
-/// `resume`: the answer is whether it did something.
+/// `resume`: its result is whether it did something.
 pub fn call_resume<L: Log>(
     machine: &mut Machine,
     app: &App,

@@ -174,7 +174,7 @@ impl<const L: usize, const M: usize> TaskLists<L, M> {
         self.table.is_empty(list)
     }
 
-    /// Whether no task is in a list. It may answer no of such lists too.
+    /// Whether no task is in a list. It may return `false` for such lists too.
     #[inline]
     pub fn is_clear(&self) -> bool
         ensures { result ≡ true → (task : ℕ) → place_of self.now task ≡ None }

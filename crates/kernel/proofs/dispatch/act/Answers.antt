@@ -1,6 +1,6 @@
 use Rattle.model.specs.declared.op.Op.TheVariants.{Value}
 use Rattle.std.proofs.Common.{refl, subst}
-use Rattle.model.specs.declared.op.Op.TheVariants.{Work, Delay, Yield, Time, End as EndLoop, If}
+use Rattle.model.specs.declared.op.Op.TheVariants.{Work, Delay, Yield, Time, End as EndLoop, If, Repeat}
 use Rattle.model.specs.declared.op.Op.TheVariants.{Await, Do}
 use Rattle.model.specs.declared.op.Op.TheVariants.{SetBits, WaitBits, Notify, AwaitNotification}
 use Rattle.kernel.specs.Bits.Begins.{Sets, Waits, Notices}
@@ -20,9 +20,9 @@ returns-in-Work-clause-does g c =
 pub returns-in-Do-clause-does : goal.returns-in-Do-clause-does
 returns-in-Do-clause-does g c =
     let can = subst (CanOp c.args.app.now c.args.machine.now c.args.task) c.in-Do.is c.requires.can in
-    does_by_form c.args.app.now c.args.machine.now c.do_at_once.new.machine (g.L.Log.logged c.args.log.now)
-    (g.L.Log.logged c.do_at_once.new.log) c.args.task c.args.op.now (Do c.in-Do.object c.in-Do.access)
-    c.in-Do.is c.requires.awake (λ s. refl) refl 2 two_within can.tick.advance.agrees c.do_at_once.ensures
+    does_by_form c.args.app.now c.args.machine.now c.do_now.new.machine (g.L.Log.logged c.args.log.now)
+    (g.L.Log.logged c.do_now.new.log) c.args.task c.args.op.now (Do c.in-Do.object c.in-Do.access)
+    c.in-Do.is c.requires.awake (λ s. refl) refl 2 two_within can.tick.advance.agrees c.do_now.ensures
 
 pub returns-in-End-clause-does : goal.returns-in-End-clause-does
 returns-in-End-clause-does g c =
@@ -40,6 +40,15 @@ returns-in-If-clause-does g c =
     refl 337 all_within
     (moves_any 337 c.args.machine.now c.branch-machine.new.machine
     (g.L.Log.logged c.args.log.now) _ can.tick.advance.agrees c.branch-machine.ensures.does)
+
+pub returns-in-Repeat-clause-does : goal.returns-in-Repeat-clause-does
+returns-in-Repeat-clause-does g c =
+    let can = subst (CanOp c.args.app.now c.args.machine.now c.args.task) c.in-Repeat.is c.requires.can in
+    any_by_form c.args.app.now c.args.machine.now c.open_loop.new.machine (g.L.Log.logged c.args.log.now)
+    (g.L.Log.logged c.args.log.now) c.args.task c.args.op.now (Repeat c.in-Repeat.turns) c.in-Repeat.is c.requires.awake
+    (λ s. refl) refl 337 all_within
+    (moves_any 337 c.args.machine.now c.open_loop.new.machine
+    (g.L.Log.logged c.args.log.now) _ can.tick.advance.agrees c.open_loop.ensures.does)
 
 pub returns-in-Await-clause-does : goal.returns-in-Await-clause-does
 returns-in-Await-clause-does g c =
@@ -96,8 +105,8 @@ go_on_by_value-requires g c =
       can = subst (CanOp c.args.app.now c.args.machine.now c.args.task) c.in-Await.is c.requires.can;
     }
 
-pub do_at_once-requires : goal.do_at_once-requires
-do_at_once-requires g c =
+pub do_now-requires : goal.do_now-requires
+do_now-requires g c =
     record {
       room = room_for_two (g.L.Log.logged c.args.log.now).room c.requires.room;
       can = subst (CanOp c.args.app.now c.args.machine.now c.args.task) c.in-Do.is c.requires.can;
@@ -210,4 +219,5 @@ pub act_seldom-requires-clause-seldom : goal.act_seldom-requires-clause-seldom
 act_seldom-requires-clause-seldom g c =
     seldom c.args.op.now c.in_default.not-Work c.in_default.not-Delay c.in_default.not-Yield c.in_default.not-Time
     c.in_default.not-Await c.in_default.not-Do c.in_default.not-SetBits c.in_default.not-WaitBits c.in_default.not-Notify
-    c.in_default.not-AwaitNotification c.in_default.not-End c.in_default.not-If c.in_default.not-Value
+    c.in_default.not-AwaitNotification c.in_default.not-End c.in_default.not-If c.in_default.not-Repeat
+    c.in_default.not-Value

@@ -1,5 +1,5 @@
 use Rattle.std.proofs.Common.{arith, refl, subst}
-use Rattle.model.specs.declared.op.Op.TheVariants.{DelayUntil, Mark, Expect, Repeat}
+use Rattle.model.specs.declared.op.Op.TheVariants.{DelayUntil, Mark, Expect}
 use Rattle.model.specs.declared.op.Op.TheVariants.{Else, EndIf, Break, Stamp, Since, MessagesWaiting, SpacesAvailable}
 use Rattle.model.specs.declared.op.Op.TheVariants.{ClearBits, GetBits}
 use Rattle.model.specs.declared.op.Op.TheVariants.{ClearNotification, Suspend, Resume, ResumeAll, NextCommand}
@@ -64,15 +64,6 @@ returns-in-Expect-clause-does g c =
     (λ s. refl) refl 337 all_within
     (moves_any 337 c.args.machine.now c.expect.new.machine
     (g.L.Log.logged c.args.log.now) _ can.tick.advance.agrees c.expect.ensures.does)
-
-pub returns-in-Repeat-clause-does : goal.returns-in-Repeat-clause-does
-returns-in-Repeat-clause-does g c =
-    let can = subst (CanOp c.args.app.now c.args.machine.now c.args.task) c.in-Repeat.is c.requires.can in
-    any_by_form c.args.app.now c.args.machine.now c.open_loop.new.machine (g.L.Log.logged c.args.log.now)
-    (g.L.Log.logged c.args.log.now) c.args.task c.args.op.now (Repeat c.in-Repeat.turns) c.in-Repeat.is c.requires.awake
-    (λ s. refl) refl 337 all_within
-    (moves_any 337 c.args.machine.now c.open_loop.new.machine
-    (g.L.Log.logged c.args.log.now) _ can.tick.advance.agrees c.open_loop.ensures.does)
 
 pub returns-in-Else-clause-does : goal.returns-in-Else-clause-does
 returns-in-Else-clause-does g c =

@@ -10,7 +10,7 @@ returns-then-begins_without_item g c = record {
 
 pub returns : goal.returns
 returns g c = record {
-  at = λ s h. rw (sym (c.if-begins_without_item.ensures s h.stands)) (c.go_on_by_number.ensures.at s h);
-  few = c.go_on_by_number.ensures.few;
-  before = c.go_on_by_number.ensures.before;
+  at = λ s h. rw (sym (c.if-begins_without_item.ensures s h.stands)) (c.go_on_waiting.ensures.at s h);
+  few = c.go_on_waiting.ensures.few;
+  before = c.go_on_waiting.ensures.before;
 }
