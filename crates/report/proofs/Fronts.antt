@@ -56,8 +56,8 @@ set_kept P d x (y ∷ ys) (suc i) here holds (suc place) =
     set_kept (λ p. P (suc p)) d x ys i here (λ p. holds (suc p)) place
 
 -- what is between the two places of a text that was put into some bytes
-pub spelled : (before bytes front : List ℕ) (at : ℕ) → at ≤ length before → bytes ≡ take at before ++ front → drop at bytes ≡ front
-spelled before bytes front at within put =
+pub rendered : (before bytes front : List ℕ) (at : ℕ) → at ≤ length before → bytes ≡ take at before ++ front → drop at bytes ≡ front
+rendered before bytes front at within put =
     let begins : length (take at before) ≡ at = omega (arith, length-take at before, within) in
     ap (drop at) put ∙ ap (λ n. drop n (take at before ++ front)) (sym begins) ∙ drop-append_seam (take at before) front
 

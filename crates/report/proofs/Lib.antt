@@ -7,5 +7,5 @@ pub mod Numbers
 pub mod Rows
 mod Shards
 pub mod Short
-pub mod Spelling
+pub mod Rendering
 pub mod Views

@@ -16,7 +16,7 @@ pub record Events : Type 0 where
   pub events : List Event
 
 -- The first events have this text, and the line of each ends here in it.
-pub record IsSpelled (app : Application) (events : List Event) (text ends : List ℕ) : Type 0 where
+pub record IsRendered (app : Application) (events : List Event) (text ends : List ℕ) : Type 0 where
   pub within : length ends ≤ length events
   pub is : text ≡ flat_map (event_text app) (take (length ends) events)
   pub ending : (number : ℕ) → number < length ends

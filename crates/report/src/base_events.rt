@@ -2,7 +2,7 @@
 ghost use Rattle.std.specs.Prelude.{◌≡◌, ◌≤◌, ◌+◌, ◌∷◌, ◌++◌, [], length, take, drop, slice_index_or, vec_len, IfOk, OnOk};
 ghost use Rattle.std.specs.List.{flat_map};
 ghost use Rattle.report.specs.Text.{event_text};
-ghost use Rattle.report.specs.Writing.{IsSpelled};
+ghost use Rattle.report.specs.Writing.{IsRendered};
 
 use crate::lines::Lines;
 use byte_io::Page;
@@ -15,7 +15,7 @@ const MOST_TEXT: usize = 1 << 26;
 
 // The text of the first of some events, and where the line of each ends in it.
 #[derive(Drop)]
-pub(crate) struct Spelled {
+pub(crate) struct Rendered {
     text: Vec<u8>,
     ends: Vec<u32>,
 }
@@ -30,34 +30,34 @@ pub(crate) struct Tail<'a> {
 /// The events of the base run of an application, and the text of the first of them.
 ///
 /// The events of a row begin with some of these, and if it comes back to the base run they end with
-/// some, so they are spelled once for all rows: as far as there is memory for their text, and about
-/// 64 MiB of it at most. The others are spelled for each row.
+/// some, so they are rendered once for all rows: as far as there is memory for their text, and about
+/// 64 MiB of it at most. The others are rendered for each row.
 #[derive(Drop)]
 pub struct BaseEvents<'a> {
     app: &'a App,
     events: &'a [Event],
-    spelled: Option<Spelled>,
+    rendered: Option<Rendered>,
 }
 
 // Clauses see the application and the events.
 impl<'a> Model for BaseEvents<'a> {
     ghost use Rattle.std.specs.Prelude.{IfSome};
-    ghost use Rattle.report.specs.Writing.{Events, IsSpelled};
+    ghost use Rattle.report.specs.Writing.{Events, IsRendered};
 
     ghost Value = { Events };
 
     ghost view = { λ b. record { app = b.app.now; events = b.events.now } };
 
-    ghost invariant = { λ b. IfSome b.spelled (λ s. IsSpelled b.app.now b.events.now s.text.items s.ends.items) };
+    ghost invariant = { λ b. IfSome b.rendered (λ s. IsRendered b.app.now b.events.now s.text.items s.ends.items) };
 }
 
-impl Spelled {
+impl Rendered {
     // No text yet.
-    fn new(alloc: Global) -> Spelled
+    fn new(alloc: Global) -> Rendered
         ensures text { result.text.items ≡ [] }
         ensures ends { result.ends.items ≡ [] }
     {
-        Spelled {
+        Rendered {
             text: Vec::new(alloc),
             ends: Vec::new(alloc),
         }
@@ -91,17 +91,17 @@ impl Spelled {
     }
 }
 
-/// What spells the lines of an application's events: a page for one of them, and what lines have in common.
+/// What renders the lines of an application's events: a page for one of them, and what lines have in common.
 ///
 /// It takes no memory, and is some 107 kB large: make it once for many texts.
 #[derive(Drop)]
-pub struct Scribe<'a> {
+pub struct EventRenderer<'a> {
     page: Page,
     lines: Lines<'a>,
 }
 
 // Clauses see the application.
-impl<'a> Model for Scribe<'a> {
+impl<'a> Model for EventRenderer<'a> {
     ghost use Rattle.model.specs.Application.{Application};
 
     ghost Value = { Application };
@@ -109,40 +109,40 @@ impl<'a> Model for Scribe<'a> {
     ghost view = { λ s. s.lines };
 }
 
-impl<'a> Scribe<'a> {
+impl<'a> EventRenderer<'a> {
     /// For events of this application.
-    pub fn new(app: &'a App) -> Scribe<'a>
+    pub fn new(app: &'a App) -> EventRenderer<'a>
         ensures { result ≡ app.now }
     {
-        Scribe {
+        EventRenderer {
             page: Page::new(),
             lines: Lines::new(app),
         }
     }
 }
 
-// Spells the events of an application, one after another, each by way of the page.
-fn spell(
+// Renders the events of an application, one after another, each by way of the page.
+fn render(
     alloc: Global,
     lines: &mut Lines<'_>,
     page: &mut Page,
     events: &[Event],
-) -> Result<Spelled, Memory>
+) -> Result<Rendered, Memory>
     ensures app { lines.new ≡ lines.old }
-    ensures text { IfOk result (λ s. IsSpelled lines.old events.now s.text.items s.ends.items) }
+    ensures text { IfOk result (λ s. IsRendered lines.old events.now s.text.items s.ends.items) }
 {
-    let mut spelled = Spelled::new(alloc);
+    let mut rendered = Rendered::new(alloc);
     for number in 0..events.len() {
-        if spelled.text.len() > MOST_TEXT {
+        if rendered.text.len() > MOST_TEXT {
             break;
         }
-        spelled.add(lines, page, &events[number..number + 1])?;
+        rendered.add(lines, page, &events[number..number + 1])?;
     }
-    Ok(spelled)
+    Ok(rendered)
 }
 
 impl<'a> BaseEvents<'a> {
-    /// The events of the base run of this application; none is spelled yet. It takes no memory.
+    /// The events of the base run of this application; none is rendered yet. It takes no memory.
     pub fn new(app: &'a App, events: &'a [Event]) -> BaseEvents<'a>
         ensures app { result.app ≡ app.now }
         ensures events { result.events ≡ events.now }
@@ -150,20 +150,24 @@ impl<'a> BaseEvents<'a> {
         BaseEvents {
             app,
             events,
-            spelled: None,
+            rendered: None,
         }
     }
 
-    /// The events of the base run of the scribe's application, spelled as far as there is memory for their text.
-    pub fn spelled(alloc: Global, scribe: &mut Scribe<'a>, events: &'a [Event]) -> BaseEvents<'a>
-        ensures scribe { scribe.new ≡ scribe.old }
-        ensures app { result.app ≡ scribe.old }
+    /// The events of the base run of the renderer's application, rendered as far as there is memory for their text.
+    pub fn rendered(
+        alloc: Global,
+        renderer: &mut EventRenderer<'a>,
+        events: &'a [Event],
+    ) -> BaseEvents<'a>
+        ensures renderer { renderer.new ≡ renderer.old }
+        ensures app { result.app ≡ renderer.old }
         ensures events { result.events ≡ events.now }
     {
         BaseEvents {
-            app: scribe.lines.app(),
+            app: renderer.lines.app(),
             events,
-            spelled: spell(alloc, &mut scribe.lines, &mut scribe.page, events).ok(),
+            rendered: render(alloc, &mut renderer.lines, &mut renderer.page, events).ok(),
         }
     }
 
@@ -179,24 +183,24 @@ impl<'a> BaseEvents<'a> {
         ensures within { result.1 ≤ count }
         ensures text { result.0.now ≡ flat_map (event_text self.now.app) (take result.1 self.now.events) }
     {
-        let Some(spelled) = &self.spelled else {
+        let Some(rendered) = &self.rendered else {
             return (&[], 0);
         };
-        let count = count.min(spelled.ends.len());
-        let end = spelled.end_of(count);
-        (&spelled.text[..end], count)
+        let count = count.min(rendered.ends.len());
+        let end = rendered.end_of(count);
+        (&rendered.text[..end], count)
     }
 
-    /// The events from this one on: the text of those that are spelled, and the others.
+    /// The events from this one on: the text of those that are rendered, and the others.
     pub(crate) fn tail(&self, from: usize) -> Tail<'_>
         requires { from ≤ length self.now.events }
         ensures { result.text.now ++ flat_map (event_text self.now.app) result.behind.now
             ≡ flat_map (event_text self.now.app) (drop from self.now.events) }
     {
-        match &self.spelled {
-            Some(spelled) if from < spelled.ends.len() => Tail {
-                text: &spelled.text[spelled.end_of(from)..],
-                behind: &self.events[spelled.ends.len()..],
+        match &self.rendered {
+            Some(rendered) if from < rendered.ends.len() => Tail {
+                text: &rendered.text[rendered.end_of(from)..],
+                behind: &self.events[rendered.ends.len()..],
             },
             _ => Tail {
                 text: &[],

@@ -1,4 +1,4 @@
-//! The fronts of an application's lines, each spelled once.
+//! The fronts of an application's lines, each rendered once.
 ghost use Rattle.std.specs.Prelude.{◌≡◌, ◌<◌, ◌≤◌, ◌+◌, ◌++◌, ◌==◌, length, take};
 ghost use Rattle.report.specs.Text.{call_front, isr_front, obeyed_front};
 ghost use Rattle.report.specs.Fronts.{mark_front, isr_mark_front, run_front};
@@ -23,7 +23,7 @@ const COMMANDS: usize = 2;
 /// The fronts of lines of an application: that of a task that runs and of a task's marks at the task's number, and that of
 /// a call, of a handler's op, or of a command that a daemon has done, at a place that several share, so it says which op it is of.
 ///
-/// Each is right at all times. One that isn't there is spelled, and kept. They are where this value
+/// Each is right at all times. One that isn't there is rendered, and kept. They are where this value
 /// is, and take no memory. They are put into bytes at a place, and the place after them is
 /// returned, as `byte_io::place` does.
 #[derive(Drop)]
@@ -105,7 +105,7 @@ impl<'a> Labels<'a> {
     {
         let label = &self.runs[task.number as usize];
         if label.len == 0 {
-            self.spell_run(bytes, at, task)
+            self.render_run(bytes, at, task)
         } else {
             put_front(bytes, at, &label.text, label.len as usize)
         }
@@ -121,7 +121,7 @@ impl<'a> Labels<'a> {
     {
         let label = &self.marks[task.number as usize];
         if label.len == 0 {
-            self.spell_mark(bytes, at, task)
+            self.render_mark(bytes, at, task)
         } else {
             put_front(bytes, at, &label.text, label.len as usize)
         }
@@ -145,7 +145,7 @@ impl<'a> Labels<'a> {
         if call.is_of(task.number, op_index) {
             put_front(bytes, at, &call.label.text, call.label.len as usize)
         } else {
-            self.spell_call(bytes, at, task, op_index)
+            self.render_call(bytes, at, task, op_index)
         }
     }
 
@@ -167,7 +167,7 @@ impl<'a> Labels<'a> {
         if isr.is_of(handler.number, op_index) {
             put_front(bytes, at, &isr.label.text, isr.label.len as usize)
         } else {
-            self.spell_isr(bytes, at, handler, op_index)
+            self.render_isr(bytes, at, handler, op_index)
         }
     }
 
@@ -197,13 +197,13 @@ impl<'a> Labels<'a> {
         if command.is_of(task.number, 1) {
             put_front(bytes, at, &command.label.text, command.label.len as usize)
         } else {
-            self.spell_obeyed(bytes, at, task, clear)
+            self.render_obeyed(bytes, at, task, clear)
         }
     }
 
-    // Spells and keeps the front of a task that runs.
+    // Renders and keeps the front of a task that runs.
     #[inline(never)]
-    fn spell_run(&mut self, bytes: &mut [u8], at: usize, task: TaskId) -> usize
+    fn render_run(&mut self, bytes: &mut [u8], at: usize, task: TaskId) -> usize
         requires { at + 48 ≤ length bytes.old }
         ensures app { self.new ≡ self.old }
         ensures text { take result bytes.new ≡ take at bytes.old ++ run_front self.old task }
@@ -214,9 +214,9 @@ impl<'a> Labels<'a> {
         end
     }
 
-    // Spells and keeps the front of a task's marks.
+    // Renders and keeps the front of a task's marks.
     #[inline(never)]
-    fn spell_mark(&mut self, bytes: &mut [u8], at: usize, task: TaskId) -> usize
+    fn render_mark(&mut self, bytes: &mut [u8], at: usize, task: TaskId) -> usize
         requires { at + 48 ≤ length bytes.old }
         ensures app { self.new ≡ self.old }
         ensures text { take result bytes.new ≡ take at bytes.old ++ mark_front self.old task }
@@ -227,9 +227,9 @@ impl<'a> Labels<'a> {
         end
     }
 
-    // Spells and keeps the front of a call.
+    // Renders and keeps the front of a call.
     #[inline(never)]
-    fn spell_call(&mut self, bytes: &mut [u8], at: usize, task: TaskId, op_index: u16) -> usize
+    fn render_call(&mut self, bytes: &mut [u8], at: usize, task: TaskId, op_index: u16) -> usize
         requires { at + 48 ≤ length bytes.old }
         ensures app { self.new ≡ self.old }
         ensures text { take result bytes.new ≡ take at bytes.old ++ call_front self.old task op_index }
@@ -245,9 +245,15 @@ impl<'a> Labels<'a> {
         end
     }
 
-    // Spells and keeps the front of a handler's op.
+    // Renders and keeps the front of a handler's op.
     #[inline(never)]
-    fn spell_isr(&mut self, bytes: &mut [u8], at: usize, handler: HandlerId, op_index: u16) -> usize
+    fn render_isr(
+        &mut self,
+        bytes: &mut [u8],
+        at: usize,
+        handler: HandlerId,
+        op_index: u16,
+    ) -> usize
         requires { at + 48 ≤ length bytes.old }
         ensures app { self.new ≡ self.old }
         ensures text { take result bytes.new ≡ take at bytes.old ++ isr_front self.old handler op_index }
@@ -263,9 +269,9 @@ impl<'a> Labels<'a> {
         end
     }
 
-    // Spells and keeps the front of a command that the daemon has done. It is printed as the op of index 1.
+    // Renders and keeps the front of a command that the daemon has done. It is printed as the op of index 1.
     #[inline(never)]
-    fn spell_obeyed(&mut self, bytes: &mut [u8], at: usize, task: TaskId, clear: bool) -> usize
+    fn render_obeyed(&mut self, bytes: &mut [u8], at: usize, task: TaskId, clear: bool) -> usize
         requires { at + 48 ≤ length bytes.old }
         ensures app { self.new ≡ self.old }
         ensures text { take result bytes.new ≡ take at bytes.old ++ obeyed_front self.old task clear }

@@ -16,7 +16,7 @@ mod title;
 mod view;
 mod writer;
 
-pub use base_events::{BaseEvents, Scribe};
+pub use base_events::{BaseEvents, EventRenderer};
 pub use end_state::write_run_and_end_state;
 pub use found::{add_found, add_placements_total};
 pub use laws::{

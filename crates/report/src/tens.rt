@@ -62,9 +62,9 @@ impl Tens {
         }
     }
 
-    // Spells the digits of this number, which is not 0.
+    // Renders the digits of this number, which is not 0.
     #[inline(never)]
-    fn spell(&mut self, tens: u32)
+    fn render(&mut self, tens: u32)
         requires few { tens * 10 < 2 ^ 32 }
         requires some { 0 < tens }
         ensures { self.new ≡ 10 * tens }
@@ -109,7 +109,7 @@ impl Tens {
             self.len = 0;
             self.first = 0;
         } else {
-            self.spell(number / 10);
+            self.render(number / 10);
         }
     }
 

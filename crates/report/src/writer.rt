@@ -82,7 +82,7 @@ fn add_events<W: Sink>(
     Ok(())
 }
 
-// Adds the lines of a base run's first events, this many; those that are spelled are sent as they
+// Adds the lines of a base run's first events, this many; those that are rendered are sent as they
 // are.
 fn add_shared<W: Sink>(
     writer: &mut W,
@@ -104,7 +104,7 @@ fn add_shared<W: Sink>(
     add_events(writer, page, lines, &base.events()[count..shared])
 }
 
-// Adds the lines of a base run's events from this one on; those that are spelled are sent as they
+// Adds the lines of a base run's events from this one on; those that are rendered are sent as they
 // are.
 fn add_base_from<W: Sink>(
     writer: &mut W,

@@ -1,5 +1,5 @@
 mod Cursors
-mod Desks
+mod Inboxes
 pub mod Linked
 pub mod LookedUp
 mod Pieces

@@ -1,4 +1,4 @@
--- Stretches of a trail that are spelled once.
+-- Stretches of a trail that are rendered once.
 use Rattle.std.proofs.Common.{◌≡◌, ◌+◌, ◌-◌, ◌≤◌, ◌∙◌, ℕ, zero, suc, List, [], ◌∷◌, take, drop}
 use Rattle.std.proofs.Common.{length, slice_index_or, slice_range, ap, arith, ◌<◌}
 use Rattle.std.specs.Prelude.{IfSome, Option, None, Some, slice_get}

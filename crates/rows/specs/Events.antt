@@ -11,7 +11,7 @@ use Rattle.rows.specs.Links.{AreLegs}
 use Rattle.rows.specs.Report.{row_of, store_of, IsKept}
 use Rattle.rows.specs.Stretches.{AreOf}
 
--- They are of this application: what is spelled is of the base run and of the part's trail, and each leg of the part goes on with
+-- They are of this application: what is rendered is of the base run and of the part's trail, and each leg of the part goes on with
 -- events that are there.
 pub record AreEventsOf (app : Application) (events : PartEvents) : Type 0 where
   pub app_is : events.base_events.now.app ≡ app

@@ -8,11 +8,11 @@ use Rattle.model.specs.Campaign.{Row}
 use Rattle.report.specs.Views.{shown_rows}
 use Rattle.rows.specs.declared.campaign_report.Rows.{Rows}
 use Rattle.rows.specs.declared.cursor.Cursor.{Cursor}
-use Rattle.rows.specs.declared.desk.Desk.{Desk}
+use Rattle.rows.specs.declared.inbox.Inbox.{Inbox}
 use Rattle.rows.specs.declared.piece.Piece.{Piece}
-use Rattle.rows.specs.declared.speller.Spelled.{Spelled}
-use Rattle.rows.specs.declared.speller.Speller.{Speller}
-use Rattle.rows.specs.declared.speller.Spelling.{Spelling}
+use Rattle.rows.specs.declared.renderer.Rendered.{Rendered}
+use Rattle.rows.specs.declared.renderer.Renderer.{Renderer}
+use Rattle.rows.specs.declared.renderer.Rendering.{Rendering}
 use Rattle.rows.specs.Report.{rows_at, whole, IsSound}
 
 -- The rows after the cursor are those of its place, without the first `row` of them, and those of the places after it.
@@ -44,54 +44,54 @@ ArePieces rows first last [] = first ≡ last
 ArePieces rows first last (piece ∷ others) =
     IsPiece rows piece × (piece.from.number ≡ first) × ArePieces rows (first + piece.count) last others
 
--- ---- texts that spellers hand on
+-- ---- texts that renderers hand on
 
 -- The texts are those of these rows, of this application, and the pieces are pieces of the rows.
-pub record IsSpelling (spelling : Spelling) : Type 0 where
-  pub app : spelling.texts.app ≡ spelling.app.now
-  pub rows : spelling.texts.rows ≡ spelling.rows.now
-  pub sound : IsSound spelling.rows.now
-  pub pieces : AllByRecursion (IsPiece spelling.rows.now) spelling.pieces.items
+pub record IsRendering (rendering : Rendering) : Type 0 where
+  pub app : rendering.texts.app ≡ rendering.app.now
+  pub rows : rendering.texts.rows ≡ rendering.rows.now
+  pub sound : IsSound rendering.rows.now
+  pub pieces : AllByRecursion (IsPiece rendering.rows.now) rendering.pieces.items
 
 -- the text of a piece
-abbrev pub text_of : Spelling → Piece → List ℕ
-text_of spelling piece = piece_text spelling.texts.app spelling.rows.now piece
+abbrev pub text_of : Rendering → Piece → List ℕ
+text_of rendering piece = piece_text rendering.texts.app rendering.rows.now piece
 
 -- The buffer has the text of the piece of its number, unless it failed.
-abbrev pub IsRight : Spelling → Spelled → Type 0
-IsRight spelling text = (piece : Piece) → piece ≡ slice_index_or spelling.pieces.items text.number piece
-    → buffer_failed text.buffer ≡ false → bytes_of text.buffer ≡ text_of spelling piece
+abbrev pub IsRight : Rendering → Rendered → Type 0
+IsRight rendering text = (piece : Piece) → piece ≡ slice_index_or rendering.pieces.items text.number piece
+    → buffer_failed text.buffer ≡ false → bytes_of text.buffer ≡ text_of rendering piece
 
--- All texts that a speller has handed on are right, and all that have arrived at a desk.
-abbrev pub HasSent : Spelling → Speller → Type 0
-HasSent spelling speller = AllByRecursion (IsRight spelling) (sent speller.spelled)
+-- All texts that a renderer has handed on are right, and all that have arrived at an inbox.
+abbrev pub HasSent : Rendering → Renderer → Type 0
+HasSent rendering renderer = AllByRecursion (IsRight rendering) (sent renderer.rendered)
 
-abbrev pub HasReceived : Spelling → Desk → Type 0
-HasReceived spelling desk = AllByRecursion (IsRight spelling) (received desk.spelled)
+abbrev pub HasReceived : Rendering → Inbox → Type 0
+HasReceived rendering inbox = AllByRecursion (IsRight rendering) (received inbox.rendered)
 
-abbrev pub HaveSent : Spelling → List Speller → Type 0
-HaveSent spelling spellers = AllByRecursion (HasSent spelling) spellers
+abbrev pub HaveSent : Rendering → List Renderer → Type 0
+HaveSent rendering renderers = AllByRecursion (HasSent rendering) renderers
 
-abbrev pub HaveReceived : Spelling → List Desk → Type 0
-HaveReceived spelling desks = AllByRecursion (HasReceived spelling) desks
+abbrev pub HaveReceived : Rendering → List Inbox → Type 0
+HaveReceived rendering inboxes = AllByRecursion (HasReceived rendering) inboxes
 
--- Spellers that have handed nothing on.
-abbrev pub AreFresh : List Speller → Type 0
-AreFresh spellers = AllByRecursion (λ (speller : Speller). sent speller.spelled ≡ []) spellers
+-- Renderers that have handed nothing on.
+abbrev pub AreFresh : List Renderer → Type 0
+AreFresh renderers = AllByRecursion (λ (renderer : Renderer). sent renderer.rendered ≡ []) renderers
 
--- Each desk is that of the speller of its place.
-abbrev pub ArePairs : List Speller → List Desk → Type 0
+-- Each inbox is that of the renderer of its place.
+abbrev pub ArePairs : List Renderer → List Inbox → Type 0
 ArePairs [] [] = Unit {0}
-ArePairs [] (desk ∷ desks) = ⊥
-ArePairs (speller ∷ spellers) [] = ⊥
-ArePairs (speller ∷ spellers) (desk ∷ desks) = IsPair speller.spelled desk.spelled × ArePairs spellers desks
+ArePairs [] (inbox ∷ inboxes) = ⊥
+ArePairs (renderer ∷ renderers) [] = ⊥
+ArePairs (renderer ∷ renderers) (inbox ∷ inboxes) = IsPair renderer.rendered inbox.rendered × ArePairs renderers inboxes
 
--- What becomes of a desk: it stays with its speller, and what has arrived there has arrived.
-pub record GoesOn (old new : Desk) : Type 0 where
-  pub ring : SameConsumer old.spelled new.spelled
-  pub received : (spelling : Spelling) → HasReceived spelling new → HasReceived spelling old
+-- What becomes of an inbox: it stays with its renderer, and what has arrived there has arrived.
+pub record GoesOn (old new : Inbox) : Type 0 where
+  pub ring : SameConsumer old.rendered new.rendered
+  pub received : (rendering : Rendering) → HasReceived rendering new → HasReceived rendering old
 
 -- the same of several
-pub record GoOn (old new : List Desk) : Type 0 where
-  pub pairs : (spellers : List Speller) → ArePairs spellers old → ArePairs spellers new
-  pub received : (spelling : Spelling) → HaveReceived spelling new → HaveReceived spelling old
+pub record GoOn (old new : List Inbox) : Type 0 where
+  pub pairs : (renderers : List Renderer) → ArePairs renderers old → ArePairs renderers new
+  pub received : (rendering : Rendering) → HaveReceived rendering new → HaveReceived rendering old

@@ -1,4 +1,4 @@
--- Stretches of a trail that are spelled once.
+-- Stretches of a trail that are rendered once.
 use Rattle.std.specs.Prelude.{◌≡◌, ◌≤◌, ℕ, List, length, drop, slice_range, slice_get, Some, IfSome}
 use Rattle.machine.specs.Logged.{all_of}
 use Rattle.model.specs.Application.{Application}

@@ -1,19 +1,19 @@
-//! The rows of a campaign: how they are kept, and the text of their report, which threads spell side by side.
+//! The rows of a campaign: how they are kept, and the text of their report, which threads render side by side.
 #![tactic(auto)]
 
 mod campaign_report;
 mod cursor;
-mod desk;
+mod inbox;
 mod kept_rows;
 mod lanes;
 mod link;
 mod part_events;
 mod piece;
 mod placing;
+mod renderer;
 mod row_texts;
 mod rows;
 mod side_by_side;
-mod speller;
 mod stretches;
 mod writing;
 

@@ -4,7 +4,7 @@ use crate::stretches::Stretches;
 use model::Run;
 use report::BaseEvents;
 
-/// The events of a part's rows, and their text as far as it is spelled: those of the base run, with
+/// The events of a part's rows, and their text as far as it is rendered: those of the base run, with
 /// which each row begins, and those that the part's worker kept.
 #[derive(Clone, Copy)]
 pub(crate) struct PartEvents<'s, 'a> {

@@ -17,7 +17,7 @@ use crate::stretches::{Stretches, stretches_of};
 use crate::writing::add_row;
 use byte_io::{Buffer, Sink, WriteFault};
 use model::{App, Run};
-use report::{BaseEvents, ReportWriter, Scribe};
+use report::{BaseEvents, EventRenderer, ReportWriter};
 use std::alloc::Global;
 use std::marker::Model;
 use std::thread::Threads;
@@ -45,9 +45,9 @@ pub(crate) struct Known {
 
 /// What is known of the texts of a report's rows: that of the base run's events, with which rows
 /// begin, that of the long stretches of the rows' own events, and of those rows that come again all
-/// but their numbers. A row that comes again is spelled once, like a stretch that many rows have.
+/// but their numbers. A row that comes again is rendered once, like a stretch that many rows have.
 ///
-/// Which texts are found is a guess: each is taken only for a row that is kept as the one that was spelled.
+/// Which texts are found is a guess: each is taken only for a row that is kept as the one that was rendered.
 #[derive(Drop)]
 pub(crate) struct RowTexts<'a> {
     rows: &'a Rows,
@@ -114,16 +114,16 @@ fn text_of(
     Some(buffer)
 }
 
-// The events of the base run, spelled as far as there is memory for their text.
-fn spelled_base<'a>(alloc: Global, app: &'a App, base: &'a Run) -> BaseEvents<'a>
+// The events of the base run, rendered as far as there is memory for their text.
+fn rendered_base<'a>(alloc: Global, app: &'a App, base: &'a Run) -> BaseEvents<'a>
     ensures app { result.app ≡ app.now }
     ensures events { result.events ≡ base.now.events }
 {
-    BaseEvents::spelled(alloc, &mut Scribe::new(app), base.events.as_slice())
+    BaseEvents::rendered(alloc, &mut EventRenderer::new(app), base.events.as_slice())
 }
 
 // The long stretches of each part's trail, if rows go on alike. Otherwise most are of one row,
-// which is as well spelled when it is written.
+// which is as well rendered when it is written.
 fn shared_stretches<'a, R: Threads + Sync>(
     rt: &R,
     alloc: Global,
@@ -155,7 +155,7 @@ impl<'a> RowTexts<'a> {
     }
 
     /// The texts are known as far as there is memory for them.
-    pub(crate) fn spelled<R: Threads + Sync>(
+    pub(crate) fn rendered<R: Threads + Sync>(
         rt: &R,
         alloc: Global,
         app: &'a App,
@@ -171,7 +171,7 @@ impl<'a> RowTexts<'a> {
         };
         let mut texts = RowTexts {
             rows,
-            events: spelled_base(alloc, app, &rows.base),
+            events: rendered_base(alloc, app, &rows.base),
             stretches: shared_stretches(rt, alloc, app, rows),
             known: Some(known),
         };
@@ -179,7 +179,7 @@ impl<'a> RowTexts<'a> {
         texts
     }
 
-    // The stretches of the trail of the part of this number, as far as they are spelled.
+    // The stretches of the trail of the part of this number, as far as they are rendered.
     fn stretches(&self, part_number: usize) -> Option<&Stretches<'a>>
         ensures { IfSome result (λ s. AreOfPart self.now.app self.now.rows part_number s.now) }
     {

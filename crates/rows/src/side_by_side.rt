@@ -1,4 +1,4 @@
-//! The rows of a report, spelled by several threads side by side, and written in their order.
+//! The rows of a report, rendered by several threads side by side, and written in their order.
 ghost use Rattle.std.specs.Prelude.{◌≡◌, List, [], ◌∷◌, false, OnOk};
 ghost use Rattle.std.specs.List.{flat_map};
 ghost use Rattle.std.specs.Result.{is_err};
@@ -6,14 +6,14 @@ ghost use Rattle.std.specs.Thread.{IsSync};
 ghost use Rattle.rtrb.specs.Ring.{SameProducer};
 ghost use Rattle.byte_io.specs.Buffers.{bytes_of, buffer_failed};
 ghost use Rattle.byte_io.specs.Bytes.{Writes};
-ghost use Rattle.rows.specs.declared.desk.Desk as desk;
-ghost use Rattle.rows.specs.declared.speller.Spelling as declared;
-ghost use Rattle.rows.specs.Pieces.{text_of, AreFresh, ArePairs, GoOn, HasSent, HaveReceived, HaveSent, IsPiece, IsSpelling};
+ghost use Rattle.rows.specs.declared.inbox.Inbox as inbox;
+ghost use Rattle.rows.specs.declared.renderer.Rendering as declared;
+ghost use Rattle.rows.specs.Pieces.{text_of, AreFresh, ArePairs, GoOn, HasSent, HaveReceived, HaveSent, IsPiece, IsRendering};
 
-use crate::desk::{Desk, give_back, take_from};
+use crate::inbox::{Inbox, give_back, take_from};
 use crate::lanes::Lanes;
 use crate::piece::Piece;
-use crate::speller::{Spelled, Speller, Spelling};
+use crate::renderer::{Rendered, Renderer, Rendering};
 use crate::writing::write_piece;
 use byte_io::{Sink, WriteFault, put_all};
 use report::ReportWriter;
@@ -21,202 +21,206 @@ use std::sync::Wait;
 use std::thread;
 use std::thread::{Threads, join_mut};
 
-// Writes the text of this piece: what was spelled, or, if the buffer has failed, what this report
-// spells now.
+// Writes the text of this piece: what was rendered, or, if the buffer has failed, what this report
+// renders now.
 fn put<W: Sink>(
-    text: &Spelled,
+    text: &Rendered,
     piece: Piece,
-    spelling: &Spelling<'_>,
+    rendering: &Rendering<'_>,
     writer: &mut W,
     report: &mut ReportWriter<'_>,
 ) -> Result<(), WriteFault>
-    requires spelling { IsSpelling spelling.now }
-    requires piece { IsPiece spelling.now.rows.now piece }
+    requires rendering { IsRendering rendering.now }
+    requires piece { IsPiece rendering.now.rows.now piece }
     requires working { W.has_failed writer.old ≡ false }
-    requires app { spelling.now.texts.app ≡ report.old.app }
+    requires app { rendering.now.texts.app ≡ report.old.app }
     requires empty { report.old.page ≡ [] }
     ensures app { report.new.app ≡ report.old.app }
-    ensures text { (buffer_failed text.now.buffer ≡ false → bytes_of text.now.buffer ≡ text_of spelling.now piece)
-        → Writes (W.held writer.old) (W.held writer.new) result (text_of spelling.now piece) }
+    ensures text { (buffer_failed text.now.buffer ≡ false → bytes_of text.now.buffer ≡ text_of rendering.now piece)
+        → Writes (W.held writer.old) (W.held writer.new) result (text_of rendering.now piece) }
     ensures empty { OnOk result (report.new.page ≡ []) }
     ensures failed { W.has_failed writer.new ≡ is_err result }
 {
     if text.buffer.has_failed() {
-        return write_piece(writer, report, spelling.rows, &spelling.texts, piece);
+        return write_piece(writer, report, rendering.rows, &rendering.texts, piece);
     }
     put_all(writer, text.buffer.bytes())
 }
 
-// Writes the texts of all pieces in their order, as they arrive at the desks, and spells pieces as
-// long as the next text isn't there. It spells by way of this report, all of whose text has gone
-// out, also what a speller had no memory for.
+// Writes the texts of all pieces in their order, as they arrive at the inboxes, and renders pieces as
+// long as the next text isn't there. It renders by way of this report, all of whose text has gone
+// out, also what a renderer had no memory for.
 //
 // That what others hand on is right is known only when they are done, so it is a premise here.
 fn write_arriving<R: Wait, W: Sink>(
     rt: &R,
-    spelling: &Spelling<'_>,
-    own: &mut Speller,
-    desks: &mut [Desk],
+    rendering: &Rendering<'_>,
+    own: &mut Renderer,
+    inboxes: &mut [Inbox],
     writer: &mut W,
     report: &mut ReportWriter<'_>,
 ) -> Result<(), WriteFault>
-    requires spelling { IsSpelling spelling.now }
+    requires rendering { IsRendering rendering.now }
     requires working { W.has_failed writer.old ≡ false }
-    requires app { spelling.now.texts.app ≡ report.old.app }
+    requires app { rendering.now.texts.app ≡ report.old.app }
     requires empty { report.old.page ≡ [] }
-    ensures ring { SameProducer own.old.spelled own.new.spelled }
-    ensures sent { HasSent spelling.now own.old → HasSent spelling.now own.new }
-    ensures desks { GoOn desks.old desks.new }
+    ensures ring { SameProducer own.old.rendered own.new.rendered }
+    ensures sent { HasSent rendering.now own.old → HasSent rendering.now own.new }
+    ensures inboxes { GoOn inboxes.old inboxes.new }
     ensures app { report.new.app ≡ report.old.app }
-    ensures text { HaveReceived spelling.now desks.new
-        → Writes (W.held writer.old) (W.held writer.new) result (flat_map (text_of spelling.now) spelling.now.pieces.items) }
+    ensures text { HaveReceived rendering.now inboxes.new
+        → Writes (W.held writer.old) (W.held writer.new) result (flat_map (text_of rendering.now) rendering.now.pieces.items) }
     ensures empty { OnOk result (report.new.page ≡ []) }
     ensures failed { W.has_failed writer.new ≡ is_err result }
 {
     let mut number = 0;
     let mut idle: u32 = 0;
     for _ in rt.forever() {
-        if number >= spelling.pieces.len() {
+        if number >= rendering.pieces.len() {
             return Ok(());
         }
-        match take_from(desks, number) {
+        match take_from(inboxes, number) {
             Some(arrived) => {
-                let piece = spelling.pieces[number];
-                put(&arrived.text, piece, spelling, writer, report)?;
-                give_back(desks, arrived.desk, arrived.text.buffer);
+                let piece = rendering.pieces[number];
+                put(&arrived.text, piece, rendering, writer, report)?;
+                give_back(inboxes, arrived.inbox, arrived.text.buffer);
                 number += 1;
                 idle = 0;
             }
             None => {
-                let busy = own.spell_next(rt, spelling, report);
-                idle = spelling.rest_unless(rt, busy, idle);
+                let busy = own.render_next(rt, rendering, report);
+                idle = rendering.rest_unless(rt, busy, idle);
             }
         }
     }
     unreachable!()
 }
 
-// Spells pieces until none is left, by each speller in a thread of its own if one can be started.
-fn spell_all<R: Threads + Wait + Sync>(rt: &R, spelling: &Spelling<'_>, spellers: &mut [Speller])
-    requires spelling { IsSpelling spelling.now }
-    ensures pairs { (desks : List desk.Desk) → ArePairs spellers.old desks → ArePairs spellers.new desks }
-    ensures sent { HaveSent spelling.now spellers.old → HaveSent spelling.now spellers.new }
+// Renders pieces until none is left, by each renderer in a thread of its own if one can be started.
+fn render_all<R: Threads + Wait + Sync>(
+    rt: &R,
+    rendering: &Rendering<'_>,
+    renderers: &mut [Renderer],
+)
+    requires rendering { IsRendering rendering.now }
+    ensures pairs { (inboxes : List inbox.Inbox) → ArePairs renderers.old inboxes → ArePairs renderers.new inboxes }
+    ensures sent { HaveSent rendering.now renderers.old → HaveSent rendering.now renderers.new }
 {
-    if spellers.is_empty() {
+    if renderers.is_empty() {
         return;
     }
-    let threads = spellers.len();
-    let each = |_index: usize, speller: &mut Speller|
-        requires spelling { IsSpelling spelling.now }
-        ensures ring { SameProducer speller.entry.now.spelled speller.exit.now.spelled }
-        ensures sent { HasSent spelling.entry.now speller.entry.now → HasSent spelling.entry.now speller.exit.now }
-    { speller.spell_all(rt, spelling) };
-    thread::for_each_mut(rt, spellers, threads, &each);
+    let threads = renderers.len();
+    let each = |_index: usize, renderer: &mut Renderer|
+        requires rendering { IsRendering rendering.now }
+        ensures ring { SameProducer renderer.entry.now.rendered renderer.exit.now.rendered }
+        ensures sent { HasSent rendering.entry.now renderer.entry.now → HasSent rendering.entry.now renderer.exit.now }
+    { renderer.render_all(rt, rendering) };
+    thread::for_each_mut(rt, renderers, threads, &each);
 }
 
-// Spells pieces in the threads of the other spellers, while the own one spells too, and writes the texts.
+// Renders pieces in the threads of the other renderers, while the own one renders too, and writes the texts.
 fn write_beside<R: Threads + Wait + Sync, W: Sink>(
     rt: &R,
-    spelling: &Spelling<'_>,
+    rendering: &Rendering<'_>,
     lanes: &mut Lanes,
     writer: &mut W,
     report: &mut ReportWriter<'_>,
 ) -> Result<(), WriteFault>
-    requires spelling { IsSpelling spelling.now }
+    requires rendering { IsRendering rendering.now }
     requires working { W.has_failed writer.old ≡ false }
-    requires app { spelling.now.texts.app ≡ report.old.app }
+    requires app { rendering.now.texts.app ≡ report.old.app }
     requires empty { report.old.page ≡ [] }
-    ensures ring { SameProducer lanes.old.own.spelled lanes.new.own.spelled }
-    ensures own { HasSent spelling.now lanes.old.own → HasSent spelling.now lanes.new.own }
-    ensures pairs { (desks : List desk.Desk) → ArePairs lanes.old.others.items desks → ArePairs lanes.new.others.items desks }
-    ensures others { HaveSent spelling.now lanes.old.others.items → HaveSent spelling.now lanes.new.others.items }
-    ensures desks { GoOn lanes.old.desks.items lanes.new.desks.items }
+    ensures ring { SameProducer lanes.old.own.rendered lanes.new.own.rendered }
+    ensures own { HasSent rendering.now lanes.old.own → HasSent rendering.now lanes.new.own }
+    ensures pairs { (inboxes : List inbox.Inbox) → ArePairs lanes.old.others.items inboxes → ArePairs lanes.new.others.items inboxes }
+    ensures others { HaveSent rendering.now lanes.old.others.items → HaveSent rendering.now lanes.new.others.items }
+    ensures inboxes { GoOn lanes.old.inboxes.items lanes.new.inboxes.items }
     ensures app { report.new.app ≡ report.old.app }
-    ensures text { HaveReceived spelling.now lanes.new.desks.items
-        → Writes (W.held writer.old) (W.held writer.new) result (flat_map (text_of spelling.now) spelling.now.pieces.items) }
+    ensures text { HaveReceived rendering.now lanes.new.inboxes.items
+        → Writes (W.held writer.old) (W.held writer.new) result (flat_map (text_of rendering.now) rendering.now.pieces.items) }
     ensures empty { OnOk result (report.new.page ≡ []) }
     ensures failed { W.has_failed writer.new ≡ is_err result }
 {
     let own = &mut lanes.own;
     let others = lanes.others.as_mut_slice();
-    let desks = lanes.desks.as_mut_slice();
+    let inboxes = lanes.inboxes.as_mut_slice();
     let mut theirs = ||
-        requires spelling { IsSpelling spelling.now }
+        requires rendering { IsRendering rendering.now }
         requires sync { IsSync R.row }
-        ensures pairs { (desks : List desk.Desk) → ArePairs others.entry.now desks → ArePairs others.exit.now desks }
-        ensures sent { HaveSent spelling.entry.now others.entry.now → HaveSent spelling.entry.now others.exit.now }
-    { spell_all(rt, spelling, others) };
+        ensures pairs { (inboxes : List inbox.Inbox) → ArePairs others.entry.now inboxes → ArePairs others.exit.now inboxes }
+        ensures sent { HaveSent rendering.entry.now others.entry.now → HaveSent rendering.entry.now others.exit.now }
+    { render_all(rt, rendering, others) };
     let mut mine = || -> Result<(), WriteFault>
-        requires spelling { IsSpelling spelling.now }
+        requires rendering { IsRendering rendering.now }
         requires working { W.has_failed writer.now ≡ false }
-        requires app { spelling.now.texts.app ≡ report.now.app }
+        requires app { rendering.now.texts.app ≡ report.now.app }
         requires empty { report.now.page ≡ [] }
-        ensures ring { SameProducer own.entry.now.spelled own.exit.now.spelled }
-        ensures sent { HasSent spelling.entry.now own.entry.now → HasSent spelling.entry.now own.exit.now }
-        ensures desks { GoOn desks.entry.now desks.exit.now }
+        ensures ring { SameProducer own.entry.now.rendered own.exit.now.rendered }
+        ensures sent { HasSent rendering.entry.now own.entry.now → HasSent rendering.entry.now own.exit.now }
+        ensures inboxes { GoOn inboxes.entry.now inboxes.exit.now }
         ensures app { report.exit.now.app ≡ report.entry.now.app }
-        ensures text { HaveReceived spelling.entry.now desks.exit.now
-            → Writes (W.held writer.entry.now) (W.held writer.exit.now) result (flat_map (text_of spelling.entry.now) spelling.entry.now.pieces.items) }
+        ensures text { HaveReceived rendering.entry.now inboxes.exit.now
+            → Writes (W.held writer.entry.now) (W.held writer.exit.now) result (flat_map (text_of rendering.entry.now) rendering.entry.now.pieces.items) }
         ensures empty { OnOk result (report.exit.now.page ≡ []) }
         ensures failed { W.has_failed writer.exit.now ≡ is_err result }
     {
-        let written = write_arriving(rt, spelling, own, desks, writer, report);
-        spelling.stop();
+        let written = write_arriving(rt, rendering, own, inboxes, writer, report);
+        rendering.stop();
         written
     };
     let (_, written) = join_mut(rt, &mut theirs, &mut mine);
     written
 }
 
-// What has arrived at the desks was handed on.
-fn compare(spellers: &mut [Speller], desks: &mut [Desk])
-    requires { ArePairs spellers.old desks.old }
-    ensures { (spelling : declared.Spelling) → HaveSent spelling spellers.old → HaveReceived spelling desks.old }
+// What has arrived at the inboxes was handed on.
+fn compare(renderers: &mut [Renderer], inboxes: &mut [Inbox])
+    requires { ArePairs renderers.old inboxes.old }
+    ensures { (rendering : declared.Rendering) → HaveSent rendering renderers.old → HaveReceived rendering inboxes.old }
 {
-    let Some((speller, spellers)) = spellers.split_first_mut() else {
+    let Some((renderer, renderers)) = renderers.split_first_mut() else {
         return;
     };
-    let Some((desk, desks)) = desks.split_first_mut() else {
+    let Some((inbox, inboxes)) = inboxes.split_first_mut() else {
         return;
     };
-    desk.spelled.slots_beside(&mut speller.spelled);
-    compare(spellers, desks);
+    inbox.rendered.slots_beside(&mut renderer.rendered);
+    compare(renderers, inboxes);
 }
 
-// The same of this speller and the others.
-fn compare_all(own: &mut Speller, others: &mut [Speller], desks: &mut [Desk])
-    requires { ArePairs (own.old ∷ others.old) desks.old }
-    ensures { (spelling : declared.Spelling) → HaveSent spelling (own.old ∷ others.old) → HaveReceived spelling desks.old }
+// The same of this renderer and the others.
+fn compare_all(own: &mut Renderer, others: &mut [Renderer], inboxes: &mut [Inbox])
+    requires { ArePairs (own.old ∷ others.old) inboxes.old }
+    ensures { (rendering : declared.Rendering) → HaveSent rendering (own.old ∷ others.old) → HaveReceived rendering inboxes.old }
 {
-    let Some((desk, desks)) = desks.split_first_mut() else {
+    let Some((inbox, inboxes)) = inboxes.split_first_mut() else {
         return;
     };
-    desk.spelled.slots_beside(&mut own.spelled);
-    compare(others, desks);
+    inbox.rendered.slots_beside(&mut own.rendered);
+    compare(others, inboxes);
 }
 
-/// Writes the texts of all pieces, in their order. The other spellers spell in threads of their own
-/// if they can be started, and the own one in this thread, which writes. What a speller has no
-/// memory for is spelled by way of this report, all of whose text has gone out. It waits for them.
+/// Writes the texts of all pieces, in their order. The other renderers render in threads of their own
+/// if they can be started, and the own one in this thread, which writes. What a renderer has no
+/// memory for is rendered by way of this report, all of whose text has gone out. It waits for them.
 pub(crate) fn write_side_by_side<R: Threads + Wait + Sync, W: Sink>(
     rt: &R,
-    spelling: &Spelling<'_>,
+    rendering: &Rendering<'_>,
     lanes: &mut Lanes,
     writer: &mut W,
     report: &mut ReportWriter<'_>,
 ) -> Result<(), WriteFault>
-    requires spelling { IsSpelling spelling.now }
-    requires pairs { ArePairs (lanes.old.own ∷ lanes.old.others.items) lanes.old.desks.items }
+    requires rendering { IsRendering rendering.now }
+    requires pairs { ArePairs (lanes.old.own ∷ lanes.old.others.items) lanes.old.inboxes.items }
     requires fresh { AreFresh (lanes.old.own ∷ lanes.old.others.items) }
     requires working { W.has_failed writer.old ≡ false }
-    requires app { spelling.now.texts.app ≡ report.old.app }
+    requires app { rendering.now.texts.app ≡ report.old.app }
     requires empty { report.old.page ≡ [] }
     ensures app { report.new.app ≡ report.old.app }
-    ensures text { Writes (W.held writer.old) (W.held writer.new) result (flat_map (text_of spelling.now) spelling.now.pieces.items) }
+    ensures text { Writes (W.held writer.old) (W.held writer.new) result (flat_map (text_of rendering.now) rendering.now.pieces.items) }
     ensures empty { OnOk result (report.new.page ≡ []) }
     ensures failed { W.has_failed writer.new ≡ is_err result }
 {
-    let written = write_beside(rt, spelling, lanes, writer, report);
-    compare_all(&mut lanes.own, &mut lanes.others, &mut lanes.desks);
+    let written = write_beside(rt, rendering, lanes, writer, report);
+    compare_all(&mut lanes.own, &mut lanes.others, &mut lanes.inboxes);
     written
 }

@@ -1,4 +1,4 @@
-//! Stretches of a trail that many rows have, each spelled once.
+//! Stretches of a trail that many rows have, each rendered once.
 ghost use Rattle.std.specs.Prelude.{◌≡◌, ◌≤◌, ◌<◌, length, slice_range, IfOk, IfSome};
 ghost use Rattle.machine.specs.Logged.{all_of};
 ghost use Rattle.rows.specs.Stretches.{AreOfPart, AreOfParts, IsTail};
@@ -6,19 +6,19 @@ ghost use Rattle.rows.specs.Stretches.{AreOfPart, AreOfParts, IsTail};
 use crate::campaign_report::Rows;
 use crate::rows::Part;
 use model::{App, Event, Memory};
-use report::{BaseEvents, Scribe};
+use report::{BaseEvents, EventRenderer};
 use std::alloc::Global;
 use std::marker::Model;
 use std::thread;
 use std::thread::Threads;
 
-// A leg of fewer events than this many is spelled for each row that goes over it. Few others go over most of those.
+// A leg of fewer events than this many is rendered for each row that goes over it. Few others go over most of those.
 const LEAST_EVENTS: usize = 64;
 
-// This many events of a part are spelled at most, which are some 100 MB of text.
+// This many events of a part are rendered at most, which are some 100 MB of text.
 const MOST_EVENTS: usize = 1 << 22;
 
-// The number of a leg whose stretch is not spelled.
+// The number of a leg whose stretch is not rendered.
 const NO_STRETCH: u32 = u32::MAX;
 
 /// The events of a trail from one place up to another, and their text as far as there was memory for it.
@@ -37,7 +37,7 @@ pub(crate) struct Found<'s, 'a> {
     pub(crate) before: usize,
 }
 
-/// The long stretches of a part's trail, each spelled once, and a guess at which is that of which leg.
+/// The long stretches of a part's trail, each rendered once, and a guess at which is that of which leg.
 #[derive(Drop)]
 pub(crate) struct Stretches<'a> {
     app: &'a App,
@@ -60,7 +60,7 @@ impl<'a> Model for Stretches<'a> {
 }
 
 impl<'a> Stretches<'a> {
-    // No stretch is spelled.
+    // No stretch is rendered.
     fn new(alloc: Global, app: &'a App, trail: &'a [Event]) -> Stretches<'a>
         ensures app { result.app ≡ app.now }
         ensures trail { result.events ≡ trail.now }
@@ -74,14 +74,14 @@ impl<'a> Stretches<'a> {
     }
 
     /// The stretches of a part's long legs, as far as there is memory for them.
-    pub(crate) fn spelled(
+    pub(crate) fn rendered(
         alloc: Global,
-        scribe: &mut Scribe<'a>,
+        renderer: &mut EventRenderer<'a>,
         app: &'a App,
         part: &'a Part,
     ) -> Stretches<'a>
-        requires { scribe.old ≡ app.now }
-        ensures scribe { scribe.new ≡ scribe.old }
+        requires { renderer.old ≡ app.now }
+        ensures renderer { renderer.new ≡ renderer.old }
         ensures app { result.app ≡ app.now }
         ensures trail { result.events ≡ all_of part.now.trail }
     {
@@ -94,7 +94,7 @@ impl<'a> Stretches<'a> {
             if is_long {
                 room -= count;
             }
-            stretches.add(alloc, scribe, first, leg.to, is_long);
+            stretches.add(alloc, renderer, first, leg.to, is_long);
             first = leg.to;
         }
         stretches
@@ -104,17 +104,17 @@ impl<'a> Stretches<'a> {
     fn add(
         &mut self,
         alloc: Global,
-        scribe: &mut Scribe<'a>,
+        renderer: &mut EventRenderer<'a>,
         first: usize,
         to: usize,
         is_long: bool,
     )
-        requires { scribe.old ≡ self.old.app }
-        ensures scribe { scribe.new ≡ scribe.old }
+        requires { renderer.old ≡ self.old.app }
+        ensures renderer { renderer.new ≡ renderer.old }
         ensures same { self.new ≡ self.old }
     {
         let number = self.stretches.len();
-        let is_added = is_long && self.push(alloc, scribe, first, to);
+        let is_added = is_long && self.push(alloc, renderer, first, to);
         let number = if is_added {
             u32::try_from(number).unwrap_or(NO_STRETCH)
         } else {
@@ -123,11 +123,17 @@ impl<'a> Stretches<'a> {
         let _refused = self.of_legs.push(number).is_err();
     }
 
-    // Spells the events of the trail between these places, if they are there. Returns whether there
+    // Renders the events of the trail between these places, if they are there. Returns whether there
     // was memory for it.
-    fn push(&mut self, alloc: Global, scribe: &mut Scribe<'a>, first: usize, to: usize) -> bool
-        requires { scribe.old ≡ self.old.app }
-        ensures scribe { scribe.new ≡ scribe.old }
+    fn push(
+        &mut self,
+        alloc: Global,
+        renderer: &mut EventRenderer<'a>,
+        first: usize,
+        to: usize,
+    ) -> bool
+        requires { renderer.old ≡ self.old.app }
+        ensures renderer { renderer.new ≡ renderer.old }
         ensures same { self.new ≡ self.old }
     {
         if to < first || self.trail.len() < to {
@@ -136,12 +142,12 @@ impl<'a> Stretches<'a> {
         let stretch = Stretch {
             first,
             to,
-            events: BaseEvents::spelled(alloc, scribe, &self.trail[first..to]),
+            events: BaseEvents::rendered(alloc, renderer, &self.trail[first..to]),
         };
         self.stretches.push(stretch).is_ok()
     }
 
-    /// What is spelled of the trail's events between these places, which are on the leg of this number.
+    /// What is rendered of the trail's events between these places, which are on the leg of this number.
     pub(crate) fn find(&self, leg: usize, from: usize, to: usize) -> Option<Found<'_, 'a>>
         requires rises { from ≤ to }
         requires within { to ≤ length self.now.events }
@@ -170,11 +176,11 @@ fn stretches_of_part<'a>(
     requires { number < length rows.now.parts.items }
     ensures { AreOfPart app.now rows.now number result }
 {
-    let mut scribe = Scribe::new(app);
-    Stretches::spelled(alloc, &mut scribe, app, &rows.parts[number])
+    let mut renderer = EventRenderer::new(app);
+    Stretches::rendered(alloc, &mut renderer, app, &rows.parts[number])
 }
 
-/// The stretches of each part's long legs, part by part. Those of each are spelled in a thread of
+/// The stretches of each part's long legs, part by part. Those of each are rendered in a thread of
 /// its own if one can be started.
 pub(crate) fn stretches_of<'a, R: Threads + Sync>(
     rt: &R,

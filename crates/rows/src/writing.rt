@@ -13,17 +13,17 @@ ghost use Rattle.report.specs.declared.title.Title.TheVariants as title;
 ghost use Rattle.rows.specs.Events.{row_from, AreEventsOf, HaveRow, IsKnownRow};
 ghost use Rattle.rows.specs.Links.{told_at, IsLink, Store};
 ghost use Rattle.rows.specs.Report.{row_of, rows_at, store_of, whole, IsPlace, IsSound};
-ghost use Rattle.rows.specs.Pieces.{piece_text, AreFresh, ArePairs, ArePieces, IsPiece, IsSpelling};
+ghost use Rattle.rows.specs.Pieces.{piece_text, AreFresh, ArePairs, ArePieces, IsPiece, IsRendering};
 
 use crate::campaign_report::{Report, Rows};
 use crate::lanes::{Lanes, lanes_of};
 use crate::link::{Leg, Link};
 use crate::part_events::{KnownRow, PartEvents};
 use crate::piece::{Piece, pieces_of};
+use crate::renderer::Rendering;
 use crate::row_texts::RowTexts;
 use crate::rows::{KeptRow, Place};
 use crate::side_by_side::write_side_by_side;
-use crate::speller::Spelling;
 use byte_io::{Sink, WriteFault};
 use model::{App, Ending};
 use report::{ReportWriter, Title, View};
@@ -32,7 +32,7 @@ use std::sync::Wait;
 use std::sync::atomic::AtomicU64;
 use std::thread::Threads;
 
-// How long the text of a piece is that a thread spells, in bytes, at least and at most.
+// How long the text of a piece is that a thread renders, in bytes, at least and at most.
 const LEAST_PIECE: usize = 1 << 14;
 
 const MOST_PIECE: usize = 1 << 16;
@@ -75,7 +75,7 @@ fn leg_at(legs: &[Leg], number: usize) -> Leg
 }
 
 // Adds the lines of a part's own events between these places, which are on the leg of this number: by
-// their text, if that is spelled.
+// their text, if that is rendered.
 fn add_leg<W: Sink>(
     writer: &mut W,
     text: &mut ReportWriter<'_>,
@@ -348,26 +348,26 @@ fn write_rows<W: Sink>(
     write_totals(writer, &mut text, rows)
 }
 
-// The same, by several spellers.
+// The same, by several renderers.
 #[inline(never)]
 fn write_rows_by<R: Threads + Wait + Sync, W: Sink>(
     rt: &R,
-    spelling: &Spelling<'_>,
+    rendering: &Rendering<'_>,
     lanes: &mut Lanes,
     writer: &mut W,
 ) -> Result<(), WriteFault>
-    requires spelling { IsSpelling spelling.now }
-    requires pairs { ArePairs (lanes.old.own ∷ lanes.old.others.items) lanes.old.desks.items }
+    requires rendering { IsRendering rendering.now }
+    requires pairs { ArePairs (lanes.old.own ∷ lanes.old.others.items) lanes.old.inboxes.items }
     requires fresh { AreFresh (lanes.old.own ∷ lanes.old.others.items) }
-    requires pieces { ArePieces spelling.now.rows.now 0 (length (whole spelling.now.rows.now)) spelling.now.pieces.items }
+    requires pieces { ArePieces rendering.now.rows.now 0 (length (whole rendering.now.rows.now)) rendering.now.pieces.items }
     requires working { W.has_failed writer.old ≡ false }
     ensures text { Writes (W.held writer.old) (W.held writer.new) result
-        (report_text spelling.now.app.now spelling.now.rows.now.view spelling.now.rows.now.first (whole spelling.now.rows.now)) }
+        (report_text rendering.now.app.now rendering.now.rows.now.view rendering.now.rows.now.first (whole rendering.now.rows.now)) }
     ensures failed { W.has_failed writer.new ≡ is_err result }
 {
-    let mut text = ReportWriter::new(spelling.app);
-    write_side_by_side(rt, spelling, lanes, writer, &mut text)?;
-    write_totals(writer, &mut text, spelling.rows)
+    let mut text = ReportWriter::new(rendering.app);
+    write_side_by_side(rt, rendering, lanes, writer, &mut text)?;
+    write_totals(writer, &mut text, rendering.rows)
 }
 
 // Whether most of the text is that of long stretches which many rows have. They are written as they
@@ -382,15 +382,15 @@ fn is_mostly_shared(rows: &Rows) -> bool
 // of the rows' memory at most. A row with its leg takes some 100 bytes, and each of its own events
 // 16. They are neither so short that handing them on takes time, nor too long for a processor's own
 // cache.
-fn length_of_pieces(rows: &Rows, spellers: usize) -> usize
-    requires some { 0 < spellers }
+fn length_of_pieces(rows: &Rows, renderers: usize) -> usize
+    requires some { 0 < renderers }
     requires sound { IsSound rows.now }
     ensures { 0 < result }
 {
     let bytes = rows
         .own_events()
         .saturating_add(rows.count().saturating_mul(6));
-    (bytes / spellers / 4).clamp(LEAST_PIECE, MOST_PIECE)
+    (bytes / renderers / 4).clamp(LEAST_PIECE, MOST_PIECE)
 }
 
 // What is known of the texts of the rows; nothing, if only heads are written.
@@ -407,15 +407,15 @@ fn texts_of<'a, R: Threads + Sync>(
     if rows.view.heads {
         RowTexts::new(app, rows)
     } else {
-        RowTexts::spelled(rt, alloc, app, rows)
+        RowTexts::rendered(rt, alloc, app, rows)
     }
 }
 
-// What several threads spell rows with, and the pieces that they spell; nothing if one thread
+// What several threads render rows with, and the pieces that they render; nothing if one thread
 // writes all rows, or without memory for them.
 fn lanes_and_pieces(alloc: Global, rows: &Rows, threads: usize) -> Option<(Lanes, Vec<Piece>)>
     requires { IsSound rows.now }
-    ensures pairs { IfSome result (λ parts. ArePairs (parts.0.own ∷ parts.0.others.items) parts.0.desks.items) }
+    ensures pairs { IfSome result (λ parts. ArePairs (parts.0.own ∷ parts.0.others.items) parts.0.inboxes.items) }
     ensures fresh { IfSome result (λ parts. AreFresh (parts.0.own ∷ parts.0.others.items)) }
     ensures pieces { IfSome result (λ parts. ArePieces rows.now 0 (length (whole rows.now)) parts.1.items) }
 {
@@ -428,7 +428,7 @@ fn lanes_and_pieces(alloc: Global, rows: &Rows, threads: usize) -> Option<(Lanes
 }
 
 /// Writes the report of a campaign: its rows as its view shows them, and the line of their totals. The report is of this application. It
-/// takes no memory, and the calling thread spells all of it.
+/// takes no memory, and the calling thread renders all of it.
 ///
 /// `Err` is returned only if the writer failed or took none of some bytes; it has then taken a beginning of the text.
 pub fn write_report<W: Sink>(app: &App, report: &Report, writer: &mut W) -> Result<(), WriteFault>
@@ -442,8 +442,8 @@ pub fn write_report<W: Sink>(app: &App, report: &Report, writer: &mut W) -> Resu
 }
 
 /// Writes what `write_report` writes, sooner. It takes memory for the text of the base run's
-/// events, with which rows begin, and for that of rows that come again. This many threads spell
-/// rows, at most 64; the calling thread is one of them. What it gets no memory for is spelled for
+/// events, with which rows begin, and for that of rows that come again. This many threads render
+/// rows, at most 64; the calling thread is one of them. What it gets no memory for is rendered for
 /// each row, on this thread.
 pub fn write_report_in_threads<R: Threads + Wait + Sync, W: Sink>(
     rt: &R,
@@ -464,12 +464,12 @@ pub fn write_report_in_threads<R: Threads + Wait + Sync, W: Sink>(
     let Some((mut lanes, pieces)) = lanes_and_pieces(alloc, rows, threads) else {
         return write_rows(app, rows, &texts, writer);
     };
-    let spelling = Spelling {
+    let rendering = Rendering {
         app,
         rows,
         texts,
         pieces,
         taken: AtomicU64::new(0),
     };
-    write_rows_by(rt, &spelling, &mut lanes, writer)
+    write_rows_by(rt, &rendering, &mut lanes, writer)
 }

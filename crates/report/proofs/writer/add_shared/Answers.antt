@@ -2,7 +2,7 @@ use Rattle.std.proofs.Common.{◌-◌, take, drop}
 use Rattle.std.specs.List.{flat_map}
 use Rattle.report.specs.Text.{event_text}
 use Rattle.byte_io.proofs.Sending.{Adds_stopped, Adds_two}
-use Rattle.report.proofs.Spelling.{first_after}
+use Rattle.report.proofs.Rendering.{first_after}
 use Rattle.report.proofs.writer.add_shared.Goals as goal
 
 pub returns-in_err-add_text-clause-text : goal.returns-in_err-add_text-clause-text

@@ -2,4 +2,4 @@ use Rattle.std.proofs.Common.{length}
 use Rattle.rows.proofs.side_by_side.+compare.Given as goal
 
 abbrev pub decreases-compare : goal.decreases-compare
-decreases-compare l = length l.spellers.now
+decreases-compare l = length l.renderers.now

@@ -3,8 +3,8 @@ use Rattle.rows.specs.Report.{whole}
 use Rattle.rows.proofs.Pieces.{each_piece}
 use Rattle.rows.proofs.writing.write_report_in_threads.Goals as goal
 
-pub write_rows_by-requires-clause-spelling : goal.write_rows_by-requires-clause-spelling
-write_rows_by-requires-clause-spelling g c κs within =
+pub write_rows_by-requires-clause-rendering : goal.write_rows_by-requires-clause-rendering
+write_rows_by-requires-clause-rendering g c κs within =
     let rows = c.rows-rows.result.now in
     record {
       app = search rules;

@@ -13,22 +13,22 @@ use Rattle.rows.proofs.writing.write_rows_by.Goals as goal
 pub returns-in_err-write_side_by_side-clause-text :
     goal.returns-in_err-write_side_by_side-clause-text
 returns-in_err-write_side_by_side-clause-text g c =
-    let spelling = c.args.spelling.now in
-    let rows = spelling.rows.now in
-    let text : flat_map (text_of spelling) spelling.pieces.items ≡ shown_rows spelling.app.now rows.view rows.first (whole rows) =
-    text_of_all rows spelling.texts.app spelling.pieces.items c.requires.pieces
-    ∙ ap (λ app. shown_rows app rows.view rows.first (whole rows)) c.requires.spelling.app in
+    let rendering = c.args.rendering.now in
+    let rows = rendering.rows.now in
+    let text : flat_map (text_of rendering) rendering.pieces.items ≡ shown_rows rendering.app.now rows.view rows.first (whole rows) =
+    text_of_all rows rendering.texts.app rendering.pieces.items c.requires.pieces
+    ∙ ap (λ app. shown_rows app rows.view rows.first (whole rows)) c.requires.rendering.app in
     MatchResult-from_err c.from_residual.result _ _ c.from_residual.ensures.0
     (λ y.
-    rows_of_report spelling.app.now rows.view rows.first _ _ _
+    rows_of_report rendering.app.now rows.view rows.first _ _ _
     (subst (SentFront _ _) text c.in_err-write_side_by_side.ensures.text))
 
 pub returns-clause-text : goal.returns-clause-text
 returns-clause-text g c =
-    let spelling = c.args.spelling.now in
-    let rows = spelling.rows.now in
-    let text : flat_map (text_of spelling) spelling.pieces.items ≡ shown_rows spelling.app.now rows.view rows.first (whole rows) =
-    text_of_all rows spelling.texts.app spelling.pieces.items c.requires.pieces
-    ∙ ap (λ app. shown_rows app rows.view rows.first (whole rows)) c.requires.spelling.app in
-    rows_and_totals spelling.app.now rows.view rows.first _ _ _ _ _
+    let rendering = c.args.rendering.now in
+    let rows = rendering.rows.now in
+    let text : flat_map (text_of rendering) rendering.pieces.items ≡ shown_rows rendering.app.now rows.view rows.first (whole rows) =
+    text_of_all rows rendering.texts.app rendering.pieces.items c.requires.pieces
+    ∙ ap (λ app. shown_rows app rows.view rows.first (whole rows)) c.requires.rendering.app in
+    rows_and_totals rendering.app.now rows.view rows.first _ _ _ _ _
     (subst (Appends _ _) text c.in_ok-write_side_by_side.ensures.text) c.write_totals.ensures.text
