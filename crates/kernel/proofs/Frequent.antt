@@ -55,8 +55,10 @@ seldom ExitCritical works delays yields times awaits does sets waits notifies no
 seldom (Source handler what) works delays yields times awaits does sets waits notifies notices ends asks repeats values = refl
 seldom (NextCommand queue) works delays yields times awaits does sets waits notifies notices ends asks repeats values = refl
 seldom Obey works delays yields times awaits does sets waits notifies notices ends asks repeats values = refl
-seldom (Work ticks) works delays yields times awaits does sets waits notifies notices ends asks repeats values = absurd (works ticks refl)
-seldom (Delay ticks) works delays yields times awaits does sets waits notifies notices ends asks repeats values = absurd (delays ticks refl)
+seldom (Work ticks) works delays yields times awaits does sets waits notifies notices ends asks repeats values =
+    absurd (works ticks refl)
+seldom (Delay ticks) works delays yields times awaits does sets waits notifies notices ends asks repeats values =
+    absurd (delays ticks refl)
 seldom Yield works delays yields times awaits does sets waits notifies notices ends asks repeats values = absurd (yields refl)
 seldom Time works delays yields times awaits does sets waits notifies notices ends asks repeats values = absurd (times refl)
 seldom (Await object access ticks) works delays yields times awaits does sets waits notifies notices ends asks repeats values =
@@ -76,4 +78,5 @@ seldom (If condition) works delays yields times awaits does sets waits notifies 
     absurd (asks condition refl)
 seldom (Repeat turns) works delays yields times awaits does sets waits notifies notices ends asks repeats values =
     absurd (repeats turns refl)
-seldom (Calculate op) works delays yields times awaits does sets waits notifies notices ends asks repeats values = absurd (values op refl)
+seldom (Calculate op) works delays yields times awaits does sets waits notifies notices ends asks repeats values =
+    absurd (values op refl)

@@ -65,7 +65,7 @@ pub allowed_by_number : (o : Object) (variables : List ℕ) (answer : Option ℕ
 allowed_by_number o variables answer a any_item b e h =
     sym (allowed_alike o variables answer a) ∙ ap (λ (x : Access ℕ). allows o x) (sym e) ∙ h
 
--- what it answers if it is not
+-- what it returns if it is not
 pub replied_alike : (o : Object) (variables : List ℕ) (answer : Option ℕ) (a : Access Value)
     → reply o (without_item a) ≡ reply o (with_number variables answer a)
 replied_alike o variables answer (Send v) = refl

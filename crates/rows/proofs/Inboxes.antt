@@ -78,7 +78,8 @@ module _ (new : Inbox) where
 
 -- each goes on
 pub pairs_each : (olds news : List Renderer) → length news ≡ length olds
-    → ((i : ℕ) (d : Renderer) → i < length olds → SameProducer (slice_index_or olds i d).rendered (slice_index_or news i d).rendered)
+    → ((i : ℕ) (d : Renderer) → i < length olds
+    → SameProducer (slice_index_or olds i d).rendered (slice_index_or news i d).rendered)
     → (inboxes : List Inbox) → ArePairs olds inboxes → ArePairs news inboxes
 pairs_each [] [] long each inboxes are = are
 pairs_each [] (n ∷ ns) long each inboxes are = absurd (omega (arith, long))
@@ -100,7 +101,8 @@ sent_each rendering (o ∷ os) (n ∷ ns) long each h =
     (each 0 o (omega arith) h.0, sent_each rendering os ns (omega (arith, long)) (λ i e l. each (suc i) e (omega (arith, l))) h.1)
 
 -- one more, of which nothing is handed on
-pub pairs_more : (renderers : List Renderer) (inboxes : List Inbox) (renderer : Renderer) (inbox : Inbox) → ArePairs renderers inboxes
+pub pairs_more : (renderers : List Renderer) (inboxes : List Inbox) (renderer : Renderer) (inbox : Inbox)
+    → ArePairs renderers inboxes
     → IsPair renderer.rendered inbox.rendered → ArePairs (renderers ++ renderer ∷ []) (inboxes ++ inbox ∷ [])
 pairs_more [] [] s d are pair = (pair, tt)
 pairs_more [] (e ∷ ds) s d are pair = absurd are

@@ -22,7 +22,8 @@ fulfil-answer-requires-clause-possible g c =
     let o = object_in c.args.machine.now.objects.objects c.args.object in
     ap (λ (x : Access ℕ). allows o x) c.call_with_number-access.ensures.kernel
     ∙ allowed_by_number o c.args.machine.now.variables (progress_in c.args.machine.now.progress c.args.task).answer
-    c.args.access.now c.without_item-any_item.result _ c.without_item-any_item.ensures (sym c.possible.ensures.possible ∙ c.if-possible.true)
+    c.args.access.now
+    c.without_item-any_item.result _ c.without_item-any_item.ensures (sym c.possible.ensures.possible ∙ c.if-possible.true)
 
 pub fulfil-answer-requires-clause-room : goal.fulfil-answer-requires-clause-room
 fulfil-answer-requires-clause-room g c =
@@ -73,7 +74,8 @@ returns-then-is_expired g c = record {
       let last = (progress_at s i).answer in
       let off = sym (c.possible.ensures.stands s None h.stands.rest.objects) ∙ c.if-possible.false in
       tried_late app c.answer_given-then-is_expired.new.self told s i o (call_with_number s i c.args.access.now)
-      (allowed_by_number (object_at s o) variables last c.args.access.now c.without_item-any_item.result _ c.without_item-any_item.ensures off)
+      (allowed_by_number (object_at s o) variables last c.args.access.now
+      c.without_item-any_item.result _ c.without_item-any_item.ensures off)
       (sym (c.is_expired.ensures s h.stands) ∙ c.if-is_expired.true)
       (subst (λ (a : Option ℕ). At c.answer_given-then-is_expired.new.self told (answer app i a (after_timeout i o s)))
       (c.refusal.ensures (object_at s o) off ∙ rw c.without_item-any_item.ensures
@@ -88,7 +90,8 @@ returns-else-is_expired g c = record {
   at = λ s h.
       tried_on c.args.app.now c.set_phase.new.self (g.L.Log.logged c.args.log.now).told s c.args.task c.args.object
       (call_with_number s c.args.task c.args.access.now)
-      (allowed_by_number (object_at s c.args.object) s.variables (progress_at s c.args.task).answer c.args.access.now c.without_item-any_item.result _
+      (allowed_by_number (object_at s c.args.object) s.variables (progress_at s c.args.task).answer c.args.access.now
+      c.without_item-any_item.result _
       c.without_item-any_item.ensures (sym (c.possible.ensures.stands s None h.stands.rest.objects) ∙ c.if-possible.false))
       (sym (c.is_expired.ensures s h.stands) ∙ c.if-is_expired.false)
       (gone_on c.args.machine.now c.set_phase.new.self (g.L.Log.logged c.args.log.now).told s h

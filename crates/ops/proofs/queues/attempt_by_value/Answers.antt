@@ -15,7 +15,8 @@ fulfil-requires-clause-possible c =
     let o = object_in c.args.machine.now.objects.objects c.args.object in
     ap (λ (x : Access ℕ). allows o x) c.call_with_number-access.ensures.kernel
     ∙ allowed_by_number o c.args.machine.now.variables (progress_in c.args.machine.now.progress c.args.task).answer
-    c.args.access.now c.without_item-any_item.result _ c.without_item-any_item.ensures (sym c.possible.ensures.possible ∙ c.if-possible.true)
+    c.args.access.now
+    c.without_item-any_item.result _ c.without_item-any_item.ensures (sym c.possible.ensures.possible ∙ c.if-possible.true)
 
 pub fulfil-requires-clause-room : goal.fulfil-requires-clause-room
 fulfil-requires-clause-room c =
@@ -29,7 +30,8 @@ returns-then-possible-clause-does c = λ log s h.
     attempted c.fulfil.new.machine log s (Some i) c.args.object a
     (is_possible c.args.machine.now s c.args.object a _ (Placed h.stands)
     (allowed_by_number (object_in c.args.machine.now.objects.objects c.args.object) s.variables (progress_at s i).answer
-    c.args.access.now c.without_item-any_item.result _ c.without_item-any_item.ensures (sym c.possible.ensures.possible ∙ c.if-possible.true)))
+    c.args.access.now
+    c.without_item-any_item.result _ c.without_item-any_item.ensures (sym c.possible.ensures.possible ∙ c.if-possible.true)))
     (subst (λ (x : Access ℕ). At c.fulfil.new.machine log (fulfil (Some i) c.args.object x s))
     (c.call_with_number-access.ensures.state s (Placed h.stands)) (c.fulfil.ensures.does log s h))
 
@@ -45,12 +47,14 @@ returns-else-possible-clause-does c = λ log s h.
     declined c.args.machine.now log s (Some i) c.args.object a
     (is_possible c.args.machine.now s c.args.object a _ (Placed h.stands)
     (allowed_by_number (object_in c.args.machine.now.objects.objects c.args.object) s.variables (progress_at s i).answer
-    c.args.access.now c.without_item-any_item.result _ c.without_item-any_item.ensures (sym c.possible.ensures.possible ∙ c.if-possible.false)))
+    c.args.access.now
+    c.without_item-any_item.result _ c.without_item-any_item.ensures (sym c.possible.ensures.possible ∙ c.if-possible.false)))
     h
 
 pub returns-else-possible-clause-answer : goal.returns-else-possible-clause-answer
 returns-else-possible-clause-answer c = λ s h.
     c.refusal.ensures (object_at s c.args.object)
-    (is_possible c.args.machine.now s c.args.object c.without_item-any_item.result _ h (sym c.possible.ensures.possible ∙ c.if-possible.false))
+    (is_possible c.args.machine.now s c.args.object
+    c.without_item-any_item.result _ h (sym c.possible.ensures.possible ∙ c.if-possible.false))
     ∙ rw c.without_item-any_item.ensures
     (replied_alike (object_at s c.args.object) s.variables (progress_at s c.args.task).answer c.args.access.now)

@@ -19,5 +19,6 @@ returns-else-holds-clause-does c = λ log s h.
     (progress_in c.args.machine.now.progress c.args.task) refl c.values.result.now c.values.ensures
     c.args.condition.now c.jump_from-behind_branch.result
     (c.if-holds.ensures
-    ∙ ap (λ (p : Progress). holds c.values.result.now c.args.condition.now p.answer) (c.behind-machine.view_is ∙ c.progress.ensures))
+    ∙ ap (λ (p : Progress). holds c.values.result.now c.args.condition.now p.answer)
+    (c.behind-machine.view_is ∙ c.progress.ensures))
     c.jump_from-behind_branch.ensures c.go_to.ensures.does

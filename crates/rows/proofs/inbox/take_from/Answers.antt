@@ -12,7 +12,8 @@ returns-in-Some-clause-inboxes c =
 
 pub returns-in-Some-clause-right : goal.returns-in-Some-clause-right
 returns-in-Some-clause-right c rendering h =
-    let within : c.loop-inbox.inbox < length c.loop-inbox.inboxes = omega (arith, c.loop-inbox.invariant.count, c.loop-inbox-test.true) in
+    let within : c.loop-inbox.inbox < length c.loop-inbox.inboxes =
+    omega (arith, c.loop-inbox.invariant.count, c.loop-inbox-test.true) in
     c.in-Some.ensures.right rendering (received_there c.take.new.self rendering c.loop-inbox.inboxes c.loop-inbox.inbox within h)
 
 pub loop-inbox-preserved : goal.loop-inbox-preserved

@@ -14,5 +14,6 @@ returns t c rendering h =
     let all : received old ++ known_items new ≡ sent c.in-Some.renderer.now.rendered =
     ap (λ texts. texts ++ known_items new) (sym slots.looked.1) ∙ slots.fifo ∙ slots.producer.1 in
     let here =
-    each_left (IsRight rendering) (received old) (known_items new) (subst (AllByRecursion (IsRight rendering)) (sym all) handed.0) in
+    each_left (IsRight rendering) (received old) (known_items new)
+    (subst (AllByRecursion (IsRight rendering)) (sym all) handed.0) in
     subst (HaveReceived rendering) (sym c.in-Some-split_first_mut.ensures.cases.0) (here, c.compare.ensures rendering handed.1)

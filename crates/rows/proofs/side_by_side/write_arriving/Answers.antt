@@ -7,7 +7,8 @@ use Rattle.rows.proofs.side_by_side.write_arriving.Goals as goal
 
 pub returns-in_err-put-in-Some-take_from-clause-inboxes :
     goal.returns-in_err-put-in-Some-take_from-clause-inboxes
-returns-in_err-put-in-Some-take_from-clause-inboxes g c = go_further _ _ _ c.loop.invariant.inboxes c.in-Some-take_from.ensures.inboxes
+returns-in_err-put-in-Some-take_from-clause-inboxes g c =
+    go_further _ _ _ c.loop.invariant.inboxes c.in-Some-take_from.ensures.inboxes
 
 pub returns-in_err-put-in-Some-take_from-clause-text :
     goal.returns-in_err-put-in-Some-take_from-clause-text

@@ -15,7 +15,8 @@ pub returns-in_err-write_side_by_side-clause-text :
 returns-in_err-write_side_by_side-clause-text g c =
     let rendering = c.args.rendering.now in
     let rows = rendering.rows.now in
-    let text : flat_map (text_of rendering) rendering.pieces.items ≡ shown_rows rendering.app.now rows.view rows.first (whole rows) =
+    let text : flat_map (text_of rendering) rendering.pieces.items
+    ≡ shown_rows rendering.app.now rows.view rows.first (whole rows) =
     text_of_all rows rendering.texts.app rendering.pieces.items c.requires.pieces
     ∙ ap (λ app. shown_rows app rows.view rows.first (whole rows)) c.requires.rendering.app in
     MatchResult-from_err c.from_residual.result _ _ c.from_residual.ensures.0
@@ -27,7 +28,8 @@ pub returns-clause-text : goal.returns-clause-text
 returns-clause-text g c =
     let rendering = c.args.rendering.now in
     let rows = rendering.rows.now in
-    let text : flat_map (text_of rendering) rendering.pieces.items ≡ shown_rows rendering.app.now rows.view rows.first (whole rows) =
+    let text : flat_map (text_of rendering) rendering.pieces.items
+    ≡ shown_rows rendering.app.now rows.view rows.first (whole rows) =
     text_of_all rows rendering.texts.app rendering.pieces.items c.requires.pieces
     ∙ ap (λ app. shown_rows app rows.view rows.first (whole rows)) c.requires.rendering.app in
     rows_and_totals rendering.app.now rows.view rows.first _ _ _ _ _

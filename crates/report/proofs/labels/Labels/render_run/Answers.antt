@@ -9,7 +9,8 @@ invariant_of-self c =
     let app = inside.app.now in
     let label = c.of.result in
     let front =
-    rendered c.args.bytes.now _ (run_front app c.args.task) c.args.at (omega (arith, c.requires)) c.put_run_front-end.ensures.text in
+    rendered c.args.bytes.now _ (run_front app c.args.task) c.args.at
+    (omega (arith, c.requires)) c.put_run_front-end.ensures.text in
     let here =
     subst (λ number. IsLabel label (run_front app number)) (sym c.task.view_is) (subst (IsLabel label) front c.of.ensures) in
     run_kept app inside.runs inside.marks inside.calls inside.isrs inside.obeyed c.self.invariant c.task.inside.number label here
