@@ -36,6 +36,9 @@ use machine::{Log, Machine, StepLog, Trail};
 use model::{App, End, HandlerId, Injection, Limits, Memory, Meter, Op, Plan, Run, TaskId};
 use std::alloc::Global;
 
+/// The room that a step needs at most, whichever handlers come before it.
+const MOST_EVENTS: usize = 1958;
+
 /// The handlers that come before a step: three at most (profile).
 type Injected = ArrayVec<HandlerId, 3>;
 
@@ -111,6 +114,18 @@ fn act_current<L: Log>(machine: &mut Machine, app: &App, limits: &Limits, log: &
     }
 }
 
+/// The same as a call: of the steps that are done one by one, all have this code.
+#[inline(never)]
+fn act_once<L: Log>(machine: &mut Machine, app: &App, limits: &Limits, log: &mut L) -> Following
+    requires room { 337 ≤ (L.logged log.old).room }
+    requires there { IfSome machine.old.sched.current (λ task. task < length app.now.tasks) }
+    requires can { CanAct app.now limits.now machine.old }
+    ensures { DoesAny 337 machine.old (L.logged log.old) machine.new (L.logged log.new)
+        (λ s. act_current app.now limits.now s.current s) }
+{
+    act_current(machine, app, limits, log)
+}
+
 /// One step of the run, with these handlers, and with what is pending. Its events go to a log that has none of this step yet. Returns
 /// whether each of the handlers can come in its turn.
 #[cold]
@@ -134,7 +149,7 @@ fn step_with_handlers<L: Log>(
 {
     app.well_formed();
     let came = come_before(machine, app, handlers, log);
-    act_current(machine, app, limits, log);
+    act_once(machine, app, limits, log);
     machine.settle(log);
     machine.steps += 1;
     came
@@ -154,7 +169,7 @@ fn step_alone<L: Log>(machine: &mut Machine, app: &App, limits: &Limits, log: &m
 {
     app.well_formed();
     // The end of the step is here twice, so that nothing is asked after an op that nothing may follow.
-    let following = act_current(machine, app, limits, log);
+    let following = act_once(machine, app, limits, log);
     if following == Following::Nothing {
         machine.settle(log);
         machine.steps += 1;
@@ -325,9 +340,8 @@ fn op_if_going<'a>(
 }
 
 /// One step of the run, whose events go to this log first, in place of its content: memory is taken only for those that the step
-/// reports. It is used if the trail has less room than a step may need, and for the few steps before which handlers or pending ones
-/// come. `Err(Memory)` is returned only if the trail had less room for them and that growth was refused. The step is done all the
-/// same.
+/// reports. It is used if the trail gets no room for all that a step may need. `Err(Memory)` is returned only if the trail had less
+/// room for them and that growth was refused. The step is done all the same.
 #[cold]
 #[inline(never)]
 fn step_apart(
@@ -384,6 +398,11 @@ pub(crate) fn step_along(
     let is_roomy = trail.begin().is_ok();
     if is_roomy && handlers.is_empty() && !kernel.sources.any_pending() {
         step_alone(kernel, app, limits, trail);
+        meter.count();
+        return Ok(());
+    }
+    if trail.make_room_for(MOST_EVENTS) {
+        step_with_handlers(kernel, app, handlers, limits, trail);
         meter.count();
         return Ok(());
     }

@@ -1,5 +1,5 @@
 //! The events of a run, or of several, with room for those of one more step.
-ghost use Rattle.std.specs.Prelude.{◌≡◌, ◌<◌, ◌≤◌, ◌↔◌, ◌++◌, [], OnOk, OnErr, length, take, IsTrue};
+ghost use Rattle.std.specs.Prelude.{◌≡◌, ◌<◌, ◌≤◌, ◌↔◌, ◌++◌, ◌^◌, [], OnOk, OnErr, length, take, IsTrue, true, false};
 ghost use Rattle.machine.specs.Logged.{all_of};
 
 use crate::log::Log;
@@ -108,6 +108,18 @@ impl Trail {
         }
         self.roomy_below = self.events.capacity() - 511;
         Ok(())
+    }
+
+    /// Makes room for so many events more of this step, 2^20 at most. Returns whether there is.
+    pub fn make_room_for(&mut self, count: usize) -> bool
+        requires { count ≤ 2 ^ 20 }
+        ensures before { self.new.before ≡ self.old.before }
+        ensures told { self.new.told ≡ self.old.told }
+        ensures room { result ≡ true → count ≤ self.new.room }
+        ensures more { self.old.room ≤ self.new.room }
+        ensures refused { result ≡ false → self.old.room < count }
+    {
+        self.events.reserve(count).is_ok()
     }
 
     /// This step reports these events too, whatever room there is. At `Err(Memory)` there was less room and the growth was

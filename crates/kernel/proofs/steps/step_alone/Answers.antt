@@ -7,15 +7,15 @@ use Rattle.kernel.proofs.Ending.{begun, begun_with_none, stepped}
 use Rattle.machine.proofs.Pending.{none_by}
 use Rattle.kernel.proofs.steps.step_alone.Goals as goal
 
-pub act_current-following-requires-clause-there : goal.act_current-following-requires-clause-there
-act_current-following-requires-clause-there g c =
+pub act_once-following-requires-clause-there : goal.act_once-following-requires-clause-there
+act_once-following-requires-clause-there g c =
     let going = c.requires.going in
     there_after c.args.app.now c.well_formed-2.ensures c.args.machine.now going [] c.args.machine.now
     (begun_with_none c.args.app.now _ (none_by c.args.machine.now _ c.requires.none going.stands) c.args.machine.now _
     (begun c.args.machine.now (g.L.Log.logged c.args.log.now).told _ going.stands c.requires.begun)).stands
 
-pub act_current-following-requires-clause-can : goal.act_current-following-requires-clause-can
-act_current-following-requires-clause-can g c =
+pub act_once-following-requires-clause-can : goal.act_once-following-requires-clause-can
+act_once-following-requires-clause-can g c =
     let going = c.requires.going in
     can_act_after c.args.app.now c.well_formed-2.ensures c.args.machine.now going [] (omega arith) c.args.machine.now
     (begun_with_none c.args.app.now _ (none_by c.args.machine.now _ c.requires.none going.stands) c.args.machine.now _
@@ -26,7 +26,7 @@ overflow_add-machine g c =
     let going = c.requires.going in
     let a =
     c.settle.ensures.at _
-    (c.act_current-following.ensures.at _
+    (c.act_once-following.ensures.at _
     (begun_with_none c.args.app.now going.state (none_by c.args.machine.now going.state c.requires.none going.stands)
     c.args.machine.now _
     (begun c.args.machine.now (g.L.Log.logged c.args.log.now).told going.state going.stands c.requires.begun))) in
@@ -43,7 +43,7 @@ pub overflow_add-machine-2 : goal.overflow_add-machine-2
 overflow_add-machine-2 g c =
     let going = c.requires.going in
     let a =
-    c.settle-2.ensures.at _ (c.act_current-following.ensures.at _
+    c.settle-2.ensures.at _ (c.act_once-following.ensures.at _
     (begun_with_none c.args.app.now going.state (none_by c.args.machine.now going.state c.requires.none going.stands)
     c.args.machine.now _
     (begun c.args.machine.now (g.L.Log.logged c.args.log.now).told going.state going.stands c.requires.begun))) in
@@ -60,7 +60,7 @@ pub returns-then-eq-clause-stands : goal.returns-then-eq-clause-stands
 returns-then-eq-clause-stands g c = λ s h.
     let a =
     c.settle.ensures.at _
-    (c.act_current-following.ensures.at _ (begun_with_none c.args.app.now s (none_by c.args.machine.now s c.requires.none h)
+    (c.act_once-following.ensures.at _ (begun_with_none c.args.app.now s (none_by c.args.machine.now s c.requires.none h)
     c.args.machine.now _
     (begun c.args.machine.now (g.L.Log.logged c.args.log.now).told s h c.requires.begun))) in
     let still =
@@ -72,7 +72,7 @@ returns-then-eq-clause-stands g c = λ s h.
 pub returns-clause-stands : goal.returns-clause-stands
 returns-clause-stands g c = λ s h.
     let a =
-    c.settle-2.ensures.at _ (c.act_current-following.ensures.at _
+    c.settle-2.ensures.at _ (c.act_once-following.ensures.at _
     (begun_with_none c.args.app.now s (none_by c.args.machine.now s c.requires.none h) c.args.machine.now _
     (begun c.args.machine.now (g.L.Log.logged c.args.log.now).told s h c.requires.begun))) in
     let still =
@@ -85,7 +85,7 @@ pub returns-then-eq-clause-told : goal.returns-then-eq-clause-told
 unfolding step
 returns-then-eq-clause-told g c = λ s h.
     (c.settle.ensures.at _
-    (c.act_current-following.ensures.at _
+    (c.act_once-following.ensures.at _
     (begun_with_none c.args.app.now s (none_by c.args.machine.now s c.requires.none h) c.args.machine.now _
     (begun c.args.machine.now (g.L.Log.logged c.args.log.now).told s h c.requires.begun)))).log
 
@@ -93,6 +93,6 @@ pub returns-clause-told : goal.returns-clause-told
 unfolding step
 returns-clause-told g c = λ s h.
     (c.settle-2.ensures.at _
-    (c.act_current-following.ensures.at _
+    (c.act_once-following.ensures.at _
     (begun_with_none c.args.app.now s (none_by c.args.machine.now s c.requires.none h) c.args.machine.now _
     (begun c.args.machine.now (g.L.Log.logged c.args.log.now).told s h c.requires.begun)))).log

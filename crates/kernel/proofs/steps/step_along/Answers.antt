@@ -24,10 +24,17 @@ returns-then-not-any_pending-clause-told c = λ s h.
     (sym (empty c.args.handlers.now (sym c.is_empty.ensures ∙ c.if-is_empty.true)))
     (told_after c.step_alone.new.log _ _ (c.step_alone.ensures.before ∙ c.begin.ensures.before) (c.step_alone.ensures.told s h))
 
+pub returns-then-make_room_for-clause-told : goal.returns-then-make_room_for-clause-told
+returns-then-make_room_for-clause-told c = λ s h.
+    told_after c.step_with_handlers.new.log _ _
+    (c.step_with_handlers.ensures.before ∙ c.make_room_for.ensures.before ∙ c.begin.ensures.before)
+    (c.step_with_handlers.ensures.told s h)
+
 pub returns-clause-told : goal.returns-clause-told
 returns-clause-told c =
     on_ok_weaker c.step_apart.result
-    (λ told s h. told_after c.step_apart.new.trail _ _ (c.step_apart.ensures.before ∙ c.begin.ensures.before) (told s h))
+    (λ told s h. told_after c.step_apart.new.trail _ _ (c.step_apart.ensures.before ∙ c.make_room_for.ensures.before ∙ c.begin.ensures.before)
+    (told s h))
     c.step_apart.ensures.told
 
 pub returns-clause-memory : goal.returns-clause-memory

@@ -9,16 +9,16 @@ use Rattle.kernel.proofs.steps.step_with_handlers.Goals as goal
 pub come_before-came-requires-clause-can : goal.come_before-came-requires-clause-can
 come_before-came-requires-clause-can g c = can_come c.args.app.now c.well_formed-2.ensures c.args.machine.now c.requires.going
 
-pub act_current-requires-clause-there : goal.act_current-requires-clause-there
-act_current-requires-clause-there g c =
+pub act_once-requires-clause-there : goal.act_once-requires-clause-there
+act_once-requires-clause-there g c =
     let going = c.requires.going in
     there_after c.args.app.now c.well_formed-2.ensures c.args.machine.now going c.args.handlers.now c.come_before-came.new.machine
     (begun_with c.args.app.now c.args.handlers.now going.state c.come_before-came.new.machine _
     (c.come_before-came.ensures.does.at _
     (begun c.args.machine.now (g.L.Log.logged c.args.log.now).told going.state going.stands c.requires.begun))).stands
 
-pub act_current-requires-clause-can : goal.act_current-requires-clause-can
-act_current-requires-clause-can g c =
+pub act_once-requires-clause-can : goal.act_once-requires-clause-can
+act_once-requires-clause-can g c =
     let going = c.requires.going in
     can_act_after c.args.app.now c.well_formed-2.ensures c.args.machine.now going c.args.handlers.now c.requires.few
     c.come_before-came.new.machine
@@ -28,13 +28,13 @@ act_current-requires-clause-can g c =
 
 pub settle-requires : goal.settle-requires
 settle-requires g c =
-    let a = c.come_before-came.ensures.does.few in let b = c.act_current.ensures.few in let room = c.requires.room in omega arith
+    let a = c.come_before-came.ensures.does.few in let b = c.act_once.ensures.few in let room = c.requires.room in omega arith
 
 pub overflow_add-machine : goal.overflow_add-machine
 overflow_add-machine g c =
     let going = c.requires.going in
     let a =
-    c.settle.ensures.at _ (c.act_current.ensures.at _
+    c.settle.ensures.at _ (c.act_once.ensures.at _
     (begun_with c.args.app.now c.args.handlers.now going.state c.come_before-came.new.machine _
     (c.come_before-came.ensures.does.at _
     (begun c.args.machine.now (g.L.Log.logged c.args.log.now).told going.state going.stands c.requires.begun)))) in
@@ -50,7 +50,7 @@ overflow_add-machine g c =
 pub returns-clause-stands : goal.returns-clause-stands
 returns-clause-stands g c = λ s h.
     let a =
-    c.settle.ensures.at _ (c.act_current.ensures.at _
+    c.settle.ensures.at _ (c.act_once.ensures.at _
     (begun_with c.args.app.now c.args.handlers.now s c.come_before-came.new.machine _
     (c.come_before-came.ensures.does.at _ (begun c.args.machine.now (g.L.Log.logged c.args.log.now).told s h c.requires.begun)))) in
     let still =
@@ -62,7 +62,7 @@ returns-clause-stands g c = λ s h.
 pub returns-clause-told : goal.returns-clause-told
 unfolding step
 returns-clause-told g c = λ s h.
-    (c.settle.ensures.at _ (c.act_current.ensures.at _
+    (c.settle.ensures.at _ (c.act_once.ensures.at _
     (begun_with c.args.app.now c.args.handlers.now s c.come_before-came.new.machine _
     (c.come_before-came.ensures.does.at _ (begun c.args.machine.now
     (g.L.Log.logged c.args.log.now).told s h c.requires.begun))))).log
