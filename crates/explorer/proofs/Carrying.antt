@@ -6,7 +6,6 @@ use Rattle.std.specs.List.{AllByRecursion, AllZip, flat_map}
 use Rattle.std.proofs.lemmas.List.{append_assoc}
 use Rattle.std.proofs.lemmas.List.Concat.{flat_map-append}
 use Rattle.std.proofs.lemmas.List.Elements.{Contains-append_left, Contains-append_right}
-use Rattle.std.proofs.lemmas.List.Sums.{sum_by-append, sum_by-set}
 use Rattle.model.specs.declared.plan.Injection.{Injection}
 use Rattle.model.specs.Application.{Application, Limits}
 use Rattle.model.specs.State.{State}
@@ -17,7 +16,7 @@ use Rattle.machine.specs.StandsFor.{Stands}
 use Rattle.machine.specs.Can.{IsUnderWay}
 use Rattle.kernel.proofs.Alike.{way_alike}
 use Rattle.explorer.specs.declared.layer.Node.{Node}
-use Rattle.explorer.specs.Layers.{AreAt, AreOf, Carries, count_of}
+use Rattle.explorer.specs.Layers.{AreAt, AreOf, Carries}
 use Rattle.explorer.specs.Nodes.{IsAlike, IsJoined, IsPut}
 use Rattle.explorer.specs.Reordered.{IsReordered}
 use Rattle.explorer.specs.Reordered.IsReordered.{Then}

@@ -7,3 +7,4 @@ pub mod Nodes
 pub mod Finding
 pub mod Sorting
 pub mod Frontiers
+pub mod Questions

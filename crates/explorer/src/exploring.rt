@@ -1,9 +1,7 @@
 //! All placements of an application.
-ghost use Rattle.std.specs.Prelude.{◌≡◌, ◌<◌, ◌≤◌, ◌-◌, ◌^◌, IfOk, length};
-ghost use Rattle.model.specs.Placements.{AreDistinct, IsExplored};
-ghost use Rattle.explorer.specs.Choosing.{AreLevels};
-ghost use Rattle.explorer.specs.Frontiers.{IsAtBlockEnd, IsThrough};
-ghost use Rattle.explorer.specs.Tallies.{AreTallied};
+ghost use Rattle.std.specs.Prelude.{◌<◌, ◌≤◌, ◌^◌, IfOk};
+ghost use Rattle.model.specs.Placements.{IsExplored};
+ghost use Rattle.explorer.specs.Questions.{AreFewChoices, HasGoneOn, HasTally, IsAtEnd};
 ghost use Rattle.explorer.specs.Totals.{placements_in};
 
 use crate::advance::{advance, advance_spent};
@@ -13,55 +11,49 @@ use crate::frontier::Frontier;
 use crate::layer::Layer;
 use crate::order::in_order;
 use crate::placement::Placement;
+use crate::question::{Question, StepBlock};
 use crate::settling::Stepper;
 use crate::watch::Watch;
 use kernel::Kernel;
 use model::{App, HandlerId, Limits, Memory};
 use std::alloc::Global;
 
-// If a block of steps ends before this step, another one begins, with so many handlers. The step up to which it goes is returned.
+// If the block ends before this step, another one begins. Returns the end of the block with this step.
 fn begin_block<W: Watch>(
-    alloc: Global,
-    app: &App,
-    limits: &Limits,
+    block: &StepBlock<'_, '_>,
     step: u32,
-    until: u32,
-    handlers: usize,
     stepper: &mut Stepper,
     frontier: &mut Frontier,
     layer: &mut Layer,
     watch: &W,
 ) -> Result<u32, Memory>
-    requires ready { IsAtBlockEnd app.now limits.now until frontier.old }
+    requires ready { IsAtEnd block.now.question.now block.now.until frontier.old }
     requires early { step ≤ 1000000 }
-    requires ahead { step ≤ until }
+    requires ahead { step ≤ block.now.until }
     ensures ahead { IfOk result (λ next. step < next) }
-    ensures through { IfOk result (λ next. IsThrough app.now limits.now until next frontier.old frontier.new) }
+    ensures through { IfOk result (λ next. HasGoneOn block.now.question.now block.now.until next frontier.old frontier.new) }
 {
-    if step < until {
-        return Ok(until);
+    if step < block.until {
+        return Ok(block.until);
     }
     watch.passed(step, frontier.states());
-    let next = step + frontier.block(handlers);
-    advance_spent(alloc, app, limits, until, next, stepper, frontier, layer)?;
-    Ok(next)
+    let question = block.question;
+    let next = StepBlock {
+        question,
+        until: step + frontier.block(question.choices.handlers.len()),
+    };
+    advance_spent(&next, block.until, stepper, frontier, layer)?;
+    Ok(next.until)
 }
 
 // What is found of each end among all placements, in any order.
-fn all_found<W: Watch>(
-    alloc: Global,
-    app: &App,
-    limits: &Limits,
-    choices: &Choices,
-    watch: &W,
-) -> Result<Vec<Found>, Memory>
-    requires levels { AreLevels choices.now.handlers.items choices.now.levels.items }
-    requires some { 0 < length choices.now.levels.items }
-    requires few { length choices.now.levels.items ≤ 4 }
-    requires once { AreDistinct choices.now.handlers.items }
-    requires few_handlers { length choices.now.handlers.items ≤ 17 }
-    ensures { IfOk result (λ found. AreTallied app.now limits.now choices.now.handlers.items (length choices.now.levels.items - 1) found.items) }
+fn all_found<W: Watch>(question: &Question<'_>, watch: &W) -> Result<Vec<Found>, Memory>
+    requires choices { AreFewChoices question.now.choices.now }
+    ensures { IfOk result (λ found. HasTally question.now found.items) }
 {
+    let alloc = question.alloc;
+    let app = question.app;
+    let limits = question.limits;
     app.well_formed();
     limits.well_formed();
     let mut stepper = Stepper::new(alloc, app);
@@ -74,55 +66,28 @@ fn all_found<W: Watch>(
         if frontier.is_over() {
             return Ok(frontier.findings);
         }
-        until = begin_block(
-            alloc,
-            app,
-            limits,
-            step,
-            until,
-            choices.handlers.len(),
-            &mut stepper,
-            &mut frontier,
-            &mut layer,
-            watch,
-        )?;
-        advance(
-            alloc,
-            app,
-            limits,
-            choices,
-            until,
-            &mut stepper,
-            &mut frontier,
-            &mut layer,
-        )?;
+        let block = StepBlock { question, until };
+        until = begin_block(&block, step, &mut stepper, &mut frontier, &mut layer, watch)?;
+        let block = StepBlock { question, until };
+        advance(&block, &mut stepper, &mut frontier, &mut layer)?;
     }
     Ok(frontier.findings)
 }
 
 // The same; the watch also learns when it is done, even if memory was refused.
-fn found_while_watched<W: Watch>(
-    alloc: Global,
-    app: &App,
-    limits: &Limits,
-    choices: &Choices,
-    watch: &W,
-) -> Result<Vec<Found>, Memory>
-    requires levels { AreLevels choices.now.handlers.items choices.now.levels.items }
-    requires some { 0 < length choices.now.levels.items }
-    requires few { length choices.now.levels.items ≤ 4 }
-    requires once { AreDistinct choices.now.handlers.items }
-    requires few_handlers { length choices.now.handlers.items ≤ 17 }
-    ensures { IfOk result (λ found. AreTallied app.now limits.now choices.now.handlers.items (length choices.now.levels.items - 1) found.items) }
+fn found_while_watched<W: Watch>(question: &Question<'_>, watch: &W) -> Result<Vec<Found>, Memory>
+    requires choices { AreFewChoices question.now.choices.now }
+    ensures { IfOk result (λ found. HasTally question.now found.items) }
 {
-    let found = all_found(alloc, app, limits, choices, watch);
+    let found = all_found(question, watch);
     watch.finished();
     found
 }
 
-/// What is found among all placements of at most so many injections (three at most) of these handlers, in the run of an application under
-/// these limits: of each end that some placement has how many have it, and the least of them. In which order the handlers are named, and
-/// whether twice, makes no difference. There are fewer than 2^128 placements in all. Meanwhile `watch` learns how far this has come.
+/// What is found among all placements of at most so many injections (three at most) of these handlers, in the run of an
+/// application under these limits: of each end that some placement has how many have it, and the least of them. In which order
+/// the handlers are named, and whether twice, makes no difference. There are fewer than 2^128 placements in all. Meanwhile
+/// `watch` learns how far this has come.
 ///
 /// `Memory` is returned only if a growth was refused.
 pub fn explore<W: Watch>(
@@ -138,6 +103,12 @@ pub fn explore<W: Watch>(
     ensures few { IfOk result (λ found. placements_in found.items < 2 ^ 128) }
 {
     let choices = Choices::new(alloc, handlers, most)?;
-    let found = found_while_watched(alloc, app, limits, &choices, watch)?;
+    let question = Question {
+        alloc,
+        app,
+        limits,
+        choices: &choices,
+    };
+    let found = found_while_watched(&question, watch)?;
     in_order(alloc, found)
 }

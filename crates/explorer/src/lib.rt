@@ -2,6 +2,7 @@
 #![tactic(auto)]
 
 mod advance;
+mod batch;
 mod choices;
 mod exploring;
 mod findings;
@@ -9,6 +10,7 @@ mod frontier;
 mod layer;
 mod order;
 mod placement;
+mod question;
 mod settling;
 mod watch;
 

@@ -1,14 +1,16 @@
 //! Runs into which no handler comes any more go on, and end or get to a step.
-ghost use Rattle.std.specs.Prelude.{◌≡◌, ◌<◌, ◌≤◌, ◌+◌, ◌^◌, IfOk, OnOk};
-ghost use Rattle.explorer.specs.Frontiers.{GoesFar, Settles};
-ghost use Rattle.explorer.specs.Layers.{HasWay, count_of};
+ghost use Rattle.std.specs.Prelude.{◌≡◌, ◌<◌, ◌+◌, ◌^◌, IfOk, OnOk};
+ghost use Rattle.explorer.specs.Frontiers.{GoesFar};
+ghost use Rattle.explorer.specs.Layers.{count_of};
+ghost use Rattle.explorer.specs.Questions.{AreSettled, AreWithin, app_in, limits_in};
 ghost use Rattle.explorer.specs.Totals.{placements_in};
 
+use crate::batch::Batch;
 use crate::findings::{Found, count_end};
 use crate::layer::Layer;
-use crate::placement::Placement;
+use crate::question::StepBlock;
 use kernel::{Kernel, RestEnding, StepLog, Trail, go_far};
-use model::{App, Limits, Memory, Meter};
+use model::{App, Memory, Meter};
 use std::alloc::Global;
 
 /// What steps report: a log for the events of one, and a trail for those of several. Nobody reads them.
@@ -40,58 +42,53 @@ impl Stepper {
     }
 }
 
-// A kernel goes on up to this step, or to the end of its run. All runs with such injections do the
-// same. Returns how they end, if they do.
+// The kernel of a batch goes on up to the end of the block, or to the end of its run. All runs with
+// such injections do the same. Returns how they end, if they do.
 fn go_on_far(
-    app: &App,
-    limits: &Limits,
-    until: u32,
-    injections: &Placement,
+    block: &StepBlock<'_, '_>,
+    batch: &Batch,
     kernel: &mut Kernel,
     reported: &mut Reported,
 ) -> Result<Option<RestEnding>, Memory>
-    requires way { HasWay app.now limits.now kernel.old injections.now }
-    requires ahead { kernel.old.steps ≤ until }
-    ensures far { IfOk result (GoesFar app.now limits.now until kernel.old kernel.new) }
+    requires within { AreWithin block.now kernel.old batch.now }
+    ensures far { IfOk result (GoesFar (app_in block.now) (limits_in block.now) block.now.until
+        kernel.old kernel.new) }
 {
+    let question = block.question;
     let mut meter = Meter::new();
     reported.trail.truncate(0);
     go_far(
         kernel,
-        app,
-        injections.as_slice(),
-        until,
-        limits,
+        question.app,
+        batch.least.as_slice(),
+        block.until,
+        question.limits,
         &mut meter,
         &mut reported.log,
         &mut reported.trail,
     )
 }
 
-/// This many plans, the least of them this one, go on from a kernel up to this step, with no more
-/// injections. They are put with the kernels there, or, if they end before it, counted with their
-/// end.
+/// The plans of a batch go on from its kernel up to the end of the block, with no more injections.
+/// They are put with the kernels there, or, if they end before it, counted with their end.
 pub(crate) fn settle(
-    alloc: Global,
-    app: &App,
-    limits: &Limits,
-    until: u32,
-    count: u128,
-    least: Placement,
+    block: &StepBlock<'_, '_>,
+    batch: Batch,
     kernel: &mut Kernel,
     reported: &mut Reported,
     layer: &mut Layer,
     findings: &mut Vec<Found>,
 ) -> Result<(), Memory>
-    requires way { HasWay app.now limits.now kernel.old least }
-    requires ahead { kernel.old.steps ≤ until }
-    requires room { count_of layer.old.nodes.items + placements_in findings.old.items + count < 2 ^ 128 }
-    ensures settles { OnOk result (Settles app.now limits.now until kernel.old count least
+    requires within { AreWithin block.now kernel.old batch }
+    requires room { count_of layer.old.nodes.items + placements_in findings.old.items + batch.count < 2 ^ 128 }
+    ensures settles { OnOk result (AreSettled block.now kernel.old batch
         layer.old.nodes.items layer.new.nodes.items findings.old.items findings.new.items) }
     ensures count { OnOk result (count_of layer.new.nodes.items + placements_in findings.new.items
-        ≡ count_of layer.old.nodes.items + placements_in findings.old.items + count) }
+        ≡ count_of layer.old.nodes.items + placements_in findings.old.items + batch.count) }
 {
-    let ending = go_on_far(app, limits, until, &least, kernel, reported)?;
+    let question = block.question;
+    let ending = go_on_far(block, &batch, kernel, reported)?;
+    let Batch { count, least } = batch;
     match ending {
         Some(ending) => count_end(
             findings,
@@ -103,6 +100,6 @@ pub(crate) fn settle(
                 end: ending.end,
             },
         ),
-        None => layer.add(alloc, app, kernel, count, least),
+        None => layer.add(question.alloc, question.app, kernel, count, least),
     }
 }

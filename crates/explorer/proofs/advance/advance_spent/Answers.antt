@@ -2,16 +2,17 @@ use Rattle.std.proofs.Common.{◌≤◌, ◌-◌, ◌∷◌, [], ◌++◌, List,
 use Rattle.model.specs.Placements.{Found}
 use Rattle.explorer.specs.declared.layer.Layer.{Layer}
 use Rattle.explorer.specs.declared.layer.Node.{Node}
+use Rattle.explorer.specs.Questions.{app_in, limits_in}
 use Rattle.explorer.proofs.Advancing.{AreLeft, all_passed, its_passed, its_room, its_step, its_way, none_there, spent_left}
 use Rattle.explorer.proofs.advance.advance_spent.Goals as goal
 
 pub pass_spent-requires : goal.pass_spent-requires
 pass_spent-requires c =
-    let app = c.args.app.now in
-    let limits = c.args.limits.now in
+    let app = app_in c.args.block.now in
+    let limits = limits_in c.args.block.now in
     let ready = c.requires.ready in
     let end = c.args.end in
-    let until = c.args.until in
+    let until = c.args.block.now.until in
     let node = c.in-Some.node in
     let rest = c.pop.new.self.items in
     let next = c.loop-node.frontier in
@@ -31,10 +32,12 @@ pass_spent-requires c =
     let few = ready.few in
     let ahead = c.requires.ahead in
     record {
-      way =
-          its_way app limits ready.handlers ready.levels end ready.n until (λ plan. ready.levels - 1 ≤ length plan) rest node next
-          ready.total left;
-      ahead = omega (arith, step, ahead);
+      within = record {
+        way =
+            its_way app limits ready.handlers ready.levels end ready.n until (λ plan. ready.levels - 1 ≤ length plan) rest node
+            next ready.total left;
+        ahead = omega (arith, step, ahead);
+      };
       room = omega (arith, room, few);
     }
 
@@ -43,10 +46,10 @@ loop-node-init c = λ handlers levels n all left. left
 
 pub loop-node-preserved : goal.loop-node-preserved
 loop-node-preserved c = λ handlers levels n all left.
-    let app = c.args.app.now in
-    let limits = c.args.limits.now in
+    let app = app_in c.args.block.now in
+    let limits = limits_in c.args.block.now in
     let end = c.args.end in
-    let until = c.args.until in
+    let until = c.args.block.now.until in
     let node = c.in-Some.node in
     let rest = c.pop.new.self.items in
     let next = c.loop-node.frontier in
@@ -59,9 +62,9 @@ pub returns : goal.returns
 returns c = λ handlers levels n all h.
     let long = c.loop-node.layer.nodes.ok.0 in
     let over = c.in_default.ensures.cases.0 in
-    let app = c.args.app.now in
-    let limits = c.args.limits.now in
-    let until = c.args.until in
+    let app = app_in c.args.block.now in
+    let limits = limits_in c.args.block.now in
+    let until = c.args.block.now.until in
     all_passed app limits handlers levels c.args.end n until (λ plan. levels - 1 ≤ length plan)
     c.loop-node.layer.nodes.items c.loop-node.frontier all (none_there c.loop-node.layer.nodes.items (omega (arith, long, over)))
     (c.loop-node.invariant handlers levels n all

@@ -7,4 +7,4 @@ use Rattle.explorer.proofs.settling.go_on_far.Goals as goal
 pub go_far-requires-clause-past : goal.go_far-requires-clause-past
 go_far-requires-clause-past c =
     subst (λ (plan : List Injection). (n : ℕ) → c.args.kernel.now.steps ≤ n → injected plan n ≡ [])
-    (sym c.as_slice.ensures.value) (none_more c.args.injections.now c.args.kernel.now.steps c.requires.way.below)
+    (sym c.as_slice.ensures.value) (none_more c.args.batch.now.least c.args.kernel.now.steps c.requires.within.way.below)
