@@ -33,8 +33,9 @@ returns-then-make_room_for-clause-told c = λ s h.
 pub returns-clause-told : goal.returns-clause-told
 returns-clause-told c =
     on_ok_weaker c.step_apart.result
-    (λ told s h. told_after c.step_apart.new.trail _ _ (c.step_apart.ensures.before ∙ c.make_room_for.ensures.before ∙ c.begin.ensures.before)
-    (told s h))
+    (λ told s h.
+    told_after c.step_apart.new.trail _ _
+    (c.step_apart.ensures.before ∙ c.make_room_for.ensures.before ∙ c.begin.ensures.before) (told s h))
     c.step_apart.ensures.told
 
 pub returns-clause-memory : goal.returns-clause-memory
