@@ -1,5 +1,5 @@
 -- The point of injections whose handlers have names.
-use Rattle.std.proofs.Common.{◌≡◌, ◌∙◌, ◌≤◌, ◌<◌, ◌↔◌, ℕ, suc, true, List, [], ◌∷◌, length, map, Option, Some, None, option_map}
+use Rattle.std.proofs.Common.{◌≡◌, ◌≤◌, ◌<◌, ◌↔◌, ℕ, suc, true, List, [], ◌∷◌, length, map, Option, Some, None, option_map}
 use Rattle.std.proofs.Common.{refl, sym, ap, subst}
 use Rattle.std.proofs.Common.{arith}
 use Rattle.std.specs.Prelude.{Err, IsSome, Result}

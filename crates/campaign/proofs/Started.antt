@@ -1,5 +1,6 @@
 -- The campaign of an application, from its shelf.
-use Rattle.std.proofs.Common.{◌≡◌, ◌≤◌, ◌∙◌, ℕ, List, [], length, ap, sym, subst}
+use Rattle.std.proofs.Common.{◌≡◌, ◌≤◌, ◌+◌, ◌-◌, ◌∙◌, ℕ, List, [], length, drop, slice_range, ap, arith, sym, subst}
+use Rattle.std.proofs.lemmas.List.{length-drop, length-take-le}
 use Rattle.model.specs.declared.plan.Injection.{Injection}
 use Rattle.model.specs.Application.{Application, Limits}
 use Rattle.model.specs.Scripts.{most_points}
@@ -7,7 +8,7 @@ use Rattle.model.specs.Run.{Run, IsRun}
 use Rattle.model.specs.Campaign.{Row, AreRows, points_in}
 use Rattle.campaign.specs.declared.points.ExpandFault.{ExpandFault}
 use Rattle.campaign.specs.declared.points.ExpandFault.TheVariants.{TooManyPoints, Memory}
-use Rattle.report.specs.Shards.{Shard, first_of, part_of}
+use Rattle.report.specs.Shards.{Shard, first_of, next_of, part_of}
 use Rattle.report.specs.declared.view.View.{View}
 use Rattle.campaign.specs.Faults.{IsCampaignFault, of_expanding}
 use Rattle.campaign.specs.Shown.{IsShownOf}
@@ -16,6 +17,17 @@ use Rattle.campaign.specs.Seen.{AreSeen}
 use Rattle.campaign.proofs.Seeing.{rows_of_seen}
 use Rattle.campaign.specs.Points.{IsExpandFault}
 use Rattle.shelf.specs.Shelves.{Shelved, IsShelf}
+
+-- a part of the points has no more of them than are left from its first one on
+pub few_of_part : (shard : Shard) (points some : List (List Injection)) (many many' from to : ℕ)
+    → many ≡ length points → many' ≡ length points → some ≡ points → from ≤ next_of shard many
+    → to ≡ next_of shard many' → to ≤ many' → from + length (slice_range some from to) ≤ length points
+few_of_part shard points some many many' from to long long' same before next within =
+    let ends : to ≡ next_of shard many = next ∙ ap (next_of shard) (long' ∙ sym long) in
+    let all = ap length same in
+    let fits : to - from ≤ length (drop from some) = omega (arith, length-drop from some, all, within, long') in
+    let part = length-take-le (to - from) (drop from some) fits in
+    omega (arith, part, ends, before, all, within, long')
 
 module _ (app : Application) (shelf : Shelved) (base : Run) (is : IsShelf app shelf)
     (own : shelf.limits ≡ app.limits) (same : base ≡ shelf.base) where

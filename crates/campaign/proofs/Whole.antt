@@ -25,7 +25,7 @@ use Rattle.rows.specs.declared.rows.Part.{Part}
 use Rattle.rows.specs.declared.rows.Place.{Place}
 use Rattle.campaign.specs.declared.worker.Job.{Job}
 use Rattle.campaign.specs.declared.worker.Done.{Done}
-use Rattle.campaign.specs.declared.worker.Setup.{Setup}
+use Rattle.campaign.specs.declared.setup.Setup.{Setup}
 use Rattle.campaign.specs.Setup.{work_of}
 use Rattle.campaign.specs.Kinds.{kind_in}
 use Rattle.rows.specs.Links.{Store}

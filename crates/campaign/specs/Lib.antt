@@ -6,6 +6,7 @@ pub mod Marks
 pub mod Named
 pub mod OneRun
 pub mod Points
+pub mod Running
 pub mod Seen
 pub mod Serving
 pub mod Setup

@@ -7,6 +7,8 @@ use Rattle.model.specs.Campaign.{Row, totals_of}
 use Rattle.deal.specs.Sharing.{Game, Sight, AreLanesOf, SomeHasSeenAll, lists_of}
 use Rattle.deal.specs.Tallies.{Sheet, Tallied, added_in}
 use Rattle.deal.specs.Totals.{total}
+use Rattle.report.specs.declared.view.View.{View}
+use Rattle.campaign.specs.declared.all_rows.Finished.{Finished}
 use Rattle.campaign.specs.declared.all_rows.Made.{Made}
 use Rattle.rows.specs.declared.rows.Part.{Part}
 use Rattle.rows.specs.declared.rows.Place.{Place}
@@ -57,3 +59,17 @@ pub record IsMade (work : Work) (tally : Sheet) (old : List Tallied) (made : Mad
   pub counted : made.totals ≡ totals_of (rows_placed work.base made.parts.items made.places.items)
   pub back : ComeBack tally old made.seats.items
   pub rise : RiseBy (totals_of (rows_placed work.base made.parts.items made.places.items)) old made.seats.items
+
+-- The rows were made, and can be reported in this view, with this number for the first and with this base run.
+pub record IsReportable (work : Work) (tally : Sheet) (old : List Tallied)
+    (made : Made) (view : View) (first : ℕ) (base : Run) : Type 0 where
+  pub is_made : IsMade work tally old made
+  pub same_view : view ≡ work.view
+  pub same_base : base ≡ work.base
+  pub few : first + length work.points ≤ most_points
+
+-- The report has the rows of the points, one for each, and the seats counted them.
+pub record IsFinished (work : Work) (tally : Sheet) (old : List Tallied) (finished : Finished) : Type 0 where
+  pub rows : AreSeen work.app work.limits work.view work.points finished.report.rows
+  pub back : ComeBack tally old finished.seats.items
+  pub rise : RiseBy (totals_of finished.report.rows) old finished.seats.items

@@ -7,16 +7,15 @@ ghost use Rattle.report.specs.Views.{plain};
 ghost use Rattle.deal.specs.Sharing.{Game, fresh_lanes};
 ghost use Rattle.deal.specs.Tallies.{Sheet, Tallied, added_in};
 ghost use Rattle.campaign.specs.declared.worker.Job as declared;
-ghost use Rattle.shelf.specs.Shelves.{IsShelf};
-ghost use Rattle.campaign.specs.Setup.{work_of};
+ghost use Rattle.campaign.specs.Setup.{work_of, AreSeats, IsSetup};
 ghost use Rattle.campaign.specs.Working.{AreDone, AreJobs, AreReady, IsDone, IsJob, Work};
 ghost use Rattle.campaign.specs.Kinds.{RiseBy};
-ghost use Rattle.campaign.specs.Seen.{AreSeen};
-ghost use Rattle.campaign.specs.Made.{BringsWhole, ComeBack, IsBrought, IsMade, IsWhole};
+ghost use Rattle.campaign.specs.Made.{BringsWhole, ComeBack, IsBrought, IsFinished, IsMade, IsReportable, IsWhole};
 
 use crate::gate::Gate;
+use crate::setup::Setup;
 use crate::tallying::AddedBefore;
-use crate::worker::{Done, Job, Setup, work};
+use crate::worker::{Done, Job, work};
 use crate::worker_results::{Apart, is_refused, jobs_of, take_apart};
 use deal::{Deal, Division, Lane, Tally, TallySeat};
 use model::{App, Limits, Memory, Point, Run, Totals};
@@ -54,7 +53,7 @@ fn run_all<R: Threads + Wait + Sync, G: Gate + Sync>(
     gate: &G,
     jobs: Vec<Job>,
 ) -> Result<Vec<Done>, Memory>
-    requires shelf { IsShelf setup.now.app.now setup.now.shelf.now }
+    requires setup { IsSetup setup.now }
     requires points { All (λ (job : declared.Job). sum job.lane.game.lengths ≡ length setup.now.points.now) jobs.items }
     requires jobs { All (λ (job : declared.Job). IsJob job.lane.game setup.now.tally.now (length setup.now.points.now) job) jobs.items }
     ensures { IfOk result (λ dones. (deal : Game) → AreJobs deal setup.now.tally.now (length setup.now.points.now) jobs.items
@@ -63,7 +62,7 @@ fn run_all<R: Threads + Wait + Sync, G: Gate + Sync>(
     let stop = AtomicU64::new(0);
     let shared = &stop;
     let each = |job: Job| -> Done
-        requires shelf { IsShelf setup.now.app.now setup.now.shelf.now }
+        requires setup { IsSetup setup.now }
         requires points { sum job.lane.game.lengths ≡ length setup.now.points.now }
         requires job { IsJob job.lane.game setup.now.tally.now (length setup.now.points.now) job }
         ensures { IsDone (work_of setup.entry.now job.lane.game.lengths) job result }
@@ -74,31 +73,28 @@ fn run_all<R: Threads + Wait + Sync, G: Gate + Sync>(
     }
 }
 
-// Lets this many workers, each with one of these lanes and a seat, work through what was dealt, and
-// takes apart what they bring.
+// Lets workers, each with one of these lanes and a seat, work through what was dealt, and takes apart
+// what they bring.
 fn work_off<R: Threads + Wait + Sync, G: Gate + Sync>(
     rt: &R,
     alloc: Global,
     setup: &Setup<'_>,
     gate: &G,
-    workers: usize,
     lanes: Vec<Lane>,
     seats: Vec<TallySeat>,
 ) -> Result<Apart, Memory>
-    requires shelf { IsShelf setup.now.app.now setup.now.shelf.now }
-    requires workers { 0 < workers }
+    requires setup { IsSetup setup.now }
     requires lanes { (deal : Game) × (lanes.items ≡ fresh_lanes deal) × (sum deal.lengths ≡ length setup.now.points.now) }
-    requires many { vec_len lanes ≡ workers }
-    requires seats { (vec_len seats ≡ workers)
-        × AreReady setup.now.tally.now (length setup.now.points.now) seats.items }
-    ensures { IfOk result (λ apart. (deal : Game) → lanes.items ≡ fresh_lanes deal → deal.lanes ≡ workers
+    requires many { vec_len lanes ≡ vec_len seats }
+    requires seats { AreSeats setup.now seats.items }
+    ensures { IfOk result (λ apart. (deal : Game) → lanes.items ≡ fresh_lanes deal → deal.lanes ≡ vec_len seats
         → IsBrought (work_of setup.now deal.lengths) deal setup.now.tally.now seats.items
         apart.lanes.items apart.seats.items apart.parts.items) }
 {
     // Each worker gets room for an eighth more rows than if all made as many, since a faster worker
     // makes more.
     let rows = setup.points.len();
-    let share = rows / workers;
+    let share = rows / seats.len();
     let room = rows.min(share.saturating_add(share / 8));
     let jobs = jobs_of(alloc, lanes, seats, room)?;
     let dones = run_all(rt, alloc, setup, gate, jobs)?;
@@ -108,21 +104,18 @@ fn work_off<R: Threads + Wait + Sync, G: Gate + Sync>(
     take_apart(alloc, dones)
 }
 
-// Deals the blocks among this many workers, each with a seat, and lets them work.
+// Deals the blocks among as many workers as there are seats, and lets them work.
 fn bring_all<R: Threads + Wait + Sync, G: Gate + Sync>(
     rt: &R,
     alloc: Global,
     setup: &Setup<'_>,
     gate: &G,
-    workers: usize,
     division: Division,
     seats: Vec<TallySeat>,
 ) -> Result<Brought, Memory>
-    requires shelf { IsShelf setup.now.app.now setup.now.shelf.now }
-    requires workers { (0 < workers) × (workers ≤ 64) }
+    requires setup { IsSetup setup.now }
     requires division { sum division ≡ length setup.now.points.now }
-    requires seats { (vec_len seats ≡ workers)
-        × AreReady setup.now.tally.now (length setup.now.points.now) seats.items }
+    requires seats { AreSeats setup.now seats.items }
     ensures deal { IfOk result (λ brought. brought.deal.lengths ≡ division) }
     ensures brought { IfOk result (λ brought. IsBrought (work_of setup.now division) brought.deal setup.now.tally.now seats.items
         brought.apart.lanes.items brought.apart.seats.items brought.apart.parts.items) }
@@ -130,10 +123,10 @@ fn bring_all<R: Threads + Wait + Sync, G: Gate + Sync>(
     // If only heads are written the last points come first, since no row is then run far. Otherwise
     // they don't, since a row's events would then lie on many short legs.
     let rising = !setup.view.heads;
-    let Ok((deal, lanes)) = Deal::new(alloc, division, workers, rising) else {
+    let Ok((deal, lanes)) = Deal::new(alloc, division, seats.len(), rising) else {
         return Err(Memory);
     };
-    let apart = work_off(rt, alloc, setup, gate, workers, lanes, seats)?;
+    let apart = work_off(rt, alloc, setup, gate, lanes, seats)?;
     Ok(Brought { deal, apart })
 }
 
@@ -172,6 +165,31 @@ fn gather_rows(
     })
 }
 
+/// Makes the rows of the points, each run from the shelf, as far as the view shows them. There are as
+/// many workers as seats, and each takes blocks of the division until all are handed out.
+pub(crate) fn make_rows<R: Threads + Wait + Sync, G: Gate + Sync>(
+    rt: &R,
+    alloc: Global,
+    setup: &Setup<'_>,
+    gate: &G,
+    division: Division,
+    seats: Vec<TallySeat>,
+) -> Result<Made, Memory>
+    requires setup { IsSetup setup.now }
+    requires few { length setup.now.points.now ≤ most_points }
+    requires division { sum division ≡ length setup.now.points.now }
+    requires seats { AreSeats setup.now seats.items }
+    ensures { IfOk result (IsMade (work_of setup.now division) setup.now.tally.now seats.items) }
+{
+    let points = setup.points.len();
+    let blocks = division.count();
+    let before = AddedBefore::of(&seats);
+    gate.begun(points);
+    let brought = bring_all(rt, alloc, setup, gate, division, seats);
+    gate.ended();
+    gather_rows(alloc, brought?, blocks, &before, points as u32)
+}
+
 /// A finished campaign: its report, and the seats that came back, to which its rows were added.
 #[derive(Drop)]
 pub struct Finished {
@@ -179,60 +197,32 @@ pub struct Finished {
     pub seats: Vec<TallySeat>,
 }
 
-/// The report of the rows of these points, each run from this shelf, as far as the view shows them. The first row has this number.
-pub(crate) fn campaign_from<R: Threads + Wait + Sync, G: Gate + Sync>(
-    rt: &R,
-    alloc: Global,
-    app: &App,
-    shelf: Shelf,
-    view: View,
-    first: usize,
-    points: &[Point],
-    workers: usize,
-    division: Division,
-    gate: &G,
-    tally: &Tally,
-    seats: Vec<TallySeat>,
-) -> Result<Finished, Memory>
-    requires shelf { IsShelf app.now shelf }
-    requires few { first + length points.now ≤ most_points }
-    requires workers { (0 < workers) × (workers ≤ 64) }
-    requires division { sum division ≡ length points.now }
-    requires seats { (vec_len seats ≡ workers) × AreReady tally.now (length points.now) seats.items }
-    ensures view { IfOk result (λ finished. finished.report.view ≡ view) }
-    ensures first { IfOk result (λ finished. finished.report.first ≡ first) }
-    ensures rows { IfOk result (λ finished. AreSeen app.now shelf.limits view points.now finished.report.rows) }
-    ensures back { IfOk result (λ finished. ComeBack tally.now seats.items finished.seats.items) }
-    ensures rise { IfOk result (λ finished. RiseBy (totals_of finished.report.rows) seats.items finished.seats.items) }
-{
-    let blocks = division.count();
-    let setup = Setup {
-        app,
-        shelf: &shelf,
-        view: &view,
-        points,
-        tally,
-    };
-    let before = AddedBefore::of(&seats);
-    gate.begun(points.len());
-    let brought = bring_all(rt, alloc, &setup, gate, workers, division, seats);
-    gate.ended();
-    let Made {
-        parts,
-        places,
-        totals,
-        seats,
-    } = gather_rows(alloc, brought?, blocks, &before, points.len() as u32)?;
-    let rows = Rows {
-        view,
-        first,
-        base: shelf.into_base(),
-        parts,
-        places,
-        totals,
-    };
-    let report = Report::new(rows);
-    Ok(Finished { report, seats })
+impl Made {
+    /// The report of the rows, with their base run, as far as this view shows them. The first row
+    /// has this number.
+    pub(crate) fn finish(self, view: View, first: usize, base: Run) -> Finished
+        requires made { (work : Work) × (tally : Sheet) × (old : List Tallied) × IsReportable work tally old self view first base }
+        ensures view { result.report.view ≡ view }
+        ensures first { result.report.first ≡ first }
+        ensures finished { (work : Work) (tally : Sheet) (old : List Tallied)
+            → IsReportable work tally old self view first base → IsFinished work tally old result }
+    {
+        let Made {
+            parts,
+            places,
+            totals,
+            seats,
+        } = self;
+        let report = Report::new(Rows {
+            view,
+            first,
+            base,
+            parts,
+            places,
+            totals,
+        });
+        Finished { report, seats }
+    }
 }
 
 /// Runs an application once for each of these points, under these limits, and reports the rows, all
@@ -273,18 +263,14 @@ pub fn campaign<R: Threads + Wait + Sync, G: Gate + Sync>(
     ensures rise { IfOk result (λ finished. RiseBy (totals_of finished.report.rows) seats.items finished.seats.items) }
 {
     let shelf = Shelf::make(alloc, app, limits, stride)?;
-    campaign_from(
-        rt,
-        alloc,
+    let view = View::plain();
+    let setup = Setup {
         app,
-        shelf,
-        View::plain(),
-        0,
-        points.as_slice(),
-        workers,
-        division,
-        gate,
+        shelf: &shelf,
+        view: &view,
+        points: points.as_slice(),
         tally,
-        seats,
-    )
+    };
+    let made = make_rows(rt, alloc, &setup, gate, division, seats)?;
+    Ok(made.finish(view, 0, shelf.into_base()))
 }

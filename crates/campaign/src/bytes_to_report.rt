@@ -1,21 +1,19 @@
 //! From the bytes of a file to the report of its campaign, or of a part of it.
-ghost use Rattle.std.specs.Prelude.{◌≡◌, ◌<◌, ◌≤◌, ◌+◌, ℕ, List, Option, Some, false, length, IfOk, MatchResult};
-ghost use Rattle.model.specs.Scripts.{most_points};
+ghost use Rattle.std.specs.Prelude.{◌≡◌, ◌<◌, ◌≤◌, ℕ, List, Option, Some, false, length, sum, IfOk, MatchResult};
 ghost use Rattle.campaign.specs.Campaigns.{ServesCampaign};
 ghost use Rattle.campaign.specs.Faults.{IsCampaignFault};
 ghost use Rattle.campaign.specs.Shown.{IsShownOf};
-ghost use Rattle.campaign.specs.Seen.{AreSeen};
 ghost use Rattle.campaign.specs.Serving.{IsFileOf, Known, streams_of};
-ghost use Rattle.shelf.specs.Shelves.{IsShelf};
 
-use crate::all_rows::campaign_from;
+use crate::all_rows::make_rows;
 use crate::file::{ServeFault, app_in, app_of};
 use crate::gate::{Gate, NoGate};
 use crate::points::{ExpandFault, expand};
+use crate::setup::Setup;
 use crate::timers::{Timers, has_timers};
 use byte_io::{Sink, Source};
 use deal::{Division, Tally};
-use model::{App, Memory, Point, Totals};
+use model::{App, Memory, Totals};
 use report::{Shard, View};
 use requests::Options;
 use rows::{Report, write_report_in_threads};
@@ -23,6 +21,15 @@ use shelf::Shelf;
 use std::alloc::Global;
 use std::sync::Wait;
 use std::thread::Threads;
+
+/// What is asked for of a campaign: what is shown of its rows, which part of them, and how they are
+/// made.
+#[derive(Clone, Copy)]
+struct Request {
+    view: View,
+    shard: Shard,
+    options: Options,
+}
 
 impl From<ExpandFault> for ServeFault {
     ghost use Rattle.campaign.specs.Faults.{of_expanding};
@@ -87,59 +94,53 @@ fn steps_between_stops(options: Options, view: View, timers: bool) -> u32
     stride.clamp(1, Options::MOST_STRIDE)
 }
 
-// The report of these points; the first of them has this number. The rows are counted by a tally of
-// its own.
-fn report_from<R: Threads + Wait + Sync, G: Gate + Sync>(
-    rt: &R,
-    alloc: Global,
-    app: &App,
-    shelf: Shelf,
-    view: View,
-    first: usize,
-    points: &[Point],
-    options: Options,
-    gate: &G,
-) -> Result<Report, Memory>
-    requires shelf { IsShelf app.now shelf }
-    requires few { first + length points.now ≤ most_points }
-    ensures view { IfOk result (λ report. report.view ≡ view) }
-    ensures first { IfOk result (λ report. report.first ≡ first) }
-    ensures rows { IfOk result (λ report. AreSeen app.now shelf.limits view points.now report.rows) }
+// The points cut into blocks, as the options say.
+fn division_of(alloc: Global, setup: &Setup<'_>, options: Options) -> Result<Division, Memory>
+    ensures { IfOk result (λ division. sum division ≡ length setup.now.points.now) }
 {
-    let workers = threads_of(options);
-    let timers = Timers::of(app, shelf.base(), &view);
-    let block = points_of_a_block(options, points.len(), workers, &timers);
-    let Ok(division) = Division::even(alloc, points.len(), block) else {
-        return Err(Memory);
-    };
-    let Ok((tally, seats)) = Tally::make(alloc, workers) else {
-        return Err(Memory);
-    };
-    let finished = campaign_from(
-        rt, alloc, app, shelf, view, first, points, workers, division, gate, &tally, seats,
-    )?;
-    Ok(finished.report)
+    let points = setup.points.len();
+    let timers = Timers::of(setup.app, setup.shelf.base(), setup.view);
+    let block = points_of_a_block(options, points, threads_of(options), &timers);
+    match Division::even(alloc, points, block) {
+        Ok(division) => Ok(division),
+        Err(_) => Err(Memory),
+    }
 }
 
-// The report of a part of the application's own points, under its own limits.
+// The report of a part of the application's own points, under its own limits. The rows are counted by a tally of its own.
 fn report_of<R: Threads + Wait + Sync, G: Gate + Sync>(
     rt: &R,
     alloc: Global,
     app: &App,
-    view: View,
-    shard: Shard,
-    options: Options,
+    request: &Request,
     gate: &G,
 ) -> Result<Report, ServeFault>
-    ensures { MatchResult result (IsShownOf app.now view shard) (IsCampaignFault app.now) }
+    ensures { MatchResult result (IsShownOf app.now request.now.view request.now.shard) (IsCampaignFault app.now) }
 {
+    let Request {
+        view,
+        shard,
+        options,
+    } = *request;
     let stride = steps_between_stops(options, view, has_timers(app, &view));
     let shelf = Shelf::make(alloc, app, app.limits(), stride)?;
     let points = expand(alloc, app, shelf.base())?;
     let first = shard.first(points.len());
     let some = &points[first..shard.next(points.len())];
-    let report = report_from(rt, alloc, app, shelf, view, first, some, options, gate)?;
-    Ok(report)
+    let Ok((tally, seats)) = Tally::make(alloc, threads_of(options)) else {
+        return Err(ServeFault::Memory);
+    };
+    let setup = Setup {
+        app,
+        shelf: &shelf,
+        view: &view,
+        points: some,
+        tally: &tally,
+    };
+    let division = division_of(alloc, &setup, options)?;
+    let made = make_rows(rt, alloc, &setup, gate, division, seats)?;
+    let finished = made.finish(view, first, shelf.into_base());
+    Ok(finished.report)
 }
 
 // Makes the rows of an application, and writes the report of them, as the last thing it does.
@@ -148,18 +149,16 @@ fn serve_app<T: Threads + Wait + Sync, W: Sink, G: Gate + Sync>(
     alloc: Global,
     app: &App,
     writer: &mut W,
-    view: View,
-    shard: Shard,
-    options: Options,
+    request: &Request,
     gate: &G,
 ) -> Result<Totals, ServeFault>
     requires { W.has_failed writer.old ≡ false }
     ensures { (input : Option (List ℕ)) (bytes : List ℕ) → Known input bytes → IsFileOf bytes app.now
-        → ServesCampaign view shard (streams_of input false
+        → ServesCampaign request.now.view request.now.shard (streams_of input false
         (W.held writer.old) (W.held writer.new) (W.has_failed writer.new)) result }
 {
-    let threads = threads_of(options);
-    let report = report_of(rt, alloc, app, view, shard, options, gate)?;
+    let threads = threads_of(request.options);
+    let report = report_of(rt, alloc, app, request, gate)?;
     write_report_in_threads(rt, alloc, app, &report, threads, writer)?;
     let totals = report.totals();
     report.free(rt);
@@ -189,7 +188,12 @@ pub fn serve<T: Threads + Wait + Sync, R: Source, W: Sink>(
         (W.held writer.old) (W.held writer.new) (W.has_failed writer.new)) result }
 {
     let app = app_of(alloc, reader)?;
-    serve_app(rt, alloc, &app, writer, view, shard, options, &NoGate)
+    let request = Request {
+        view,
+        shard,
+        options,
+    };
+    serve_app(rt, alloc, &app, writer, &request, &NoGate)
 }
 
 /// The same as `serve`, of the file of these bytes. The gate learns what the workers do.
@@ -208,5 +212,10 @@ pub fn serve_of<T: Threads + Wait + Sync, W: Sink, G: Gate + Sync>(
         (W.held writer.old) (W.held writer.new) (W.has_failed writer.new)) result }
 {
     let app = app_in(alloc, bytes)?;
-    serve_app(rt, alloc, &app, writer, view, shard, options, gate)
+    let request = Request {
+        view,
+        shard,
+        options,
+    };
+    serve_app(rt, alloc, &app, writer, &request, gate)
 }

@@ -16,6 +16,7 @@ mod one_run;
 mod points;
 mod recent;
 mod runner;
+mod setup;
 mod spacing;
 mod tallying;
 mod timers;

@@ -1,30 +1,27 @@
 //! Running the rows of a worker, one after another.
-ghost use Rattle.std.specs.Prelude.{◌≡◌, ◌<◌, ◌≤◌, ◌+◌, ◌++◌, ◌∷◌, ◌^◌, [], false, true, length, take, if◌then◌else◌, Some, None, min, option_map, IfOk, IfSome, OnOk};
-ghost use Rattle.std.specs.List.{AllByRecursion};
+ghost use Rattle.std.specs.Prelude.{◌≡◌, ◌<◌, ◌+◌, ◌++◌, ◌∷◌, ◌^◌, [], false, true, length, take, if◌then◌else◌, Some, None, min};
+ghost use Rattle.std.specs.Prelude.{IfOk, IfSome, OnOk};
 ghost use Rattle.model.specs.Points.{first_step, last_step};
-ghost use Rattle.model.specs.Run.{end_of, is_reached, state_after};
 ghost use Rattle.machine.specs.Logged.{all_of};
-ghost use Rattle.machine.specs.Can.{IsUnderWay};
-ghost use Rattle.kernel.specs.Leads.{IsLed, IsPast};
-ghost use Rattle.shelf.specs.Shelves.{IsShelf};
-ghost use Rattle.shelf.specs.Walks.{IsWalk};
 ghost use Rattle.report.specs.Views.{shows_events};
 ghost use Rattle.rows.specs.declared.link.Link.TheVariants as links;
-ghost use Rattle.rows.specs.Links.{AreLegs};
-ghost use Rattle.campaign.specs.Marks.{AreBehind, AreMarked, ArePut, IsAhead, IsNoted};
-ghost use Rattle.campaign.specs.Working.{store_in, GainsRow, IsPassed, IsRestOf};
+ghost use Rattle.campaign.specs.Marks.{ArePut, IsNoted};
+ghost use Rattle.campaign.specs.Running.{ArePassed, HasLegs, HasMarks, HasPassed, IsAheadOf, IsLedOn, IsOnWay, IsPastAll};
+ghost use Rattle.campaign.specs.Running.{IsRestOfRow, RunsRow, end_at};
+ghost use Rattle.campaign.specs.Setup.{IsSetup, IsWalkOf, is_reached_in};
 
 use crate::ahead::Ahead;
 use crate::mark::{Mark, Passed};
 use crate::mark_steps::next_mark;
 use crate::mark_table::MarkTable;
 use crate::meetings::Meetings;
+use crate::setup::Setup;
 use crate::spacing::Spacing;
 use kernel::{Kernel, RestEnding, Snapshot, StepLog, Trail, go_far};
 use model::{App, End, Injection, Limits, Memory, Meter, Point, Run};
 use report::View;
 use rows::{KeptRow, Leg, Link};
-use shelf::{Shelf, Walk};
+use shelf::Walk;
 use std::alloc::Global;
 
 /// What a worker runs its rows with: a kernel, the log of a step, the trail and the legs of all of
@@ -131,22 +128,15 @@ impl Runner {
     }
 
     // The rest of a row that has reached its end: nothing more.
-    fn no_rest(
-        &self,
-        app: &App,
-        limits: &Limits,
-        view: View,
-        base: &Run,
-        point: &Point,
-        end: End,
-    ) -> Ahead
-        requires way { IsUnderWay app.now point.now limits.now self.now.kernel }
-        requires end { end_of app.now limits.now (state_after app.now limits.now point.now self.now.kernel.steps) ≡ Some end }
-        ensures { IsRestOf app.now limits.now view base.now (store_in self.now) (store_in self.now) point.now self.now.kernel result }
+    fn no_rest(&self, setup: &Setup<'_>, point: &Point, end: End) -> Ahead
+        requires way { IsOnWay setup.now point.now self.now }
+        requires end { end_at setup.now point.now self.now ≡ Some end }
+        ensures { IsRestOfRow setup.now point.now self.now self.now result }
     {
+        let limits = setup.shelf.limits();
         limits.well_formed();
         Ahead {
-            told: end_of_base(base),
+            told: end_of_base(setup.shelf.base()),
             steps: self.kernel.steps(),
             ticks: self.kernel.ticks(),
             end,
@@ -155,14 +145,14 @@ impl Runner {
 
     // How each row that reaches this kernel goes on, if that is known: since the base run has
     // reached it, or another row.
-    fn known_rest(&self, app: &App, shelf: &Shelf, hint: u64) -> Option<Ahead>
-        requires shelf { IsShelf app.now shelf.now }
-        ensures { IfSome result (IsAhead app.now shelf.now.limits shelf.now.base self.now.table.marks.items self.now.kernel) }
+    fn known_rest(&self, setup: &Setup<'_>, hint: u64) -> Option<Ahead>
+        requires setup { IsSetup setup.now }
+        ensures { IfSome result (IsAheadOf setup.now self.now self.now) }
     {
-        let Some(before) = shelf.known(&self.kernel, hint) else {
+        let Some(before) = setup.shelf.known(&self.kernel, hint) else {
             return self.table.find(&self.kernel, hint);
         };
-        let base = shelf.base();
+        let base = setup.shelf.base();
         Some(Ahead {
             told: Link::Base { from: before },
             steps: base.steps,
@@ -195,27 +185,25 @@ impl Runner {
     // Runs a row to its end. Its last injection comes before the step that it has reached.
     fn run_out(
         &mut self,
-        app: &App,
-        shelf: &Shelf,
+        setup: &Setup<'_>,
         injections: &[Injection],
         meter: &mut Meter,
     ) -> Result<Ahead, Memory>
-        requires shelf { IsShelf app.now shelf.now }
-        requires past { IsPast app.now shelf.now.limits self.old.kernel injections.now }
-        requires passed { AreBehind app.now shelf.now.limits (all_of self.old.trail) self.old.kernel self.old.passed.items }
+        requires setup { IsSetup setup.now }
+        requires past { IsPastAll setup.now injections.now self.old }
+        requires passed { HasPassed setup.now self.old }
         requires meter { meter.old < 2 ^ 62 + self.old.kernel.steps }
         ensures legs { self.new.legs ≡ self.old.legs }
         ensures table { self.new.table ≡ self.old.table }
-        ensures led { OnOk result (IsLed app.now shelf.now.limits self.old.kernel self.new.kernel
-            (all_of self.old.trail) (all_of self.new.trail)) }
-        ensures passed { OnOk result (AreBehind app.now shelf.now.limits (all_of self.new.trail) self.new.kernel self.new.passed.items) }
-        ensures rest { IfOk result (IsAhead app.now shelf.now.limits shelf.now.base self.old.table.marks.items self.new.kernel) }
+        ensures led { OnOk result (IsLedOn setup.now self.old self.new) }
+        ensures passed { OnOk result (HasPassed setup.now self.new) }
+        ensures rest { IfOk result (IsAheadOf setup.now self.old self.new) }
     {
-        let limits = shelf.limits();
+        let limits = setup.shelf.limits();
         limits.well_formed();
         let ending = go_far(
             &mut self.kernel,
-            app,
+            setup.app,
             injections,
             u32::MAX,
             &limits,
@@ -224,7 +212,7 @@ impl Runner {
             &mut self.trail,
         )?;
         match ending {
-            Some(ending) => Ok(ahead_of(ending, shelf.base())),
+            Some(ending) => Ok(ahead_of(ending, setup.shelf.base())),
             // No run gets this far (profile).
             None => unreachable!(),
         }
@@ -235,31 +223,29 @@ impl Runner {
     // for marks, and notes the kernel.
     fn run_on(
         &mut self,
-        app: &App,
-        shelf: &Shelf,
+        setup: &Setup<'_>,
         injections: &[Injection],
         last: u32,
         meter: &mut Meter,
     ) -> Result<Ahead, Memory>
-        requires shelf { IsShelf app.now shelf.now }
-        requires past { IsPast app.now shelf.now.limits self.old.kernel injections.now }
-        requires goes { end_of app.now shelf.now.limits (state_after app.now shelf.now.limits injections.now self.old.kernel.steps) ≡ None }
-        requires passed { AreBehind app.now shelf.now.limits (all_of self.old.trail) self.old.kernel self.old.passed.items }
+        requires setup { IsSetup setup.now }
+        requires past { IsPastAll setup.now injections.now self.old }
+        requires goes { end_at setup.now injections.now self.old ≡ None }
+        requires passed { HasPassed setup.now self.old }
         requires meter { meter.old < 2 ^ 62 + self.old.kernel.steps }
         ensures legs { self.new.legs ≡ self.old.legs }
         ensures table { self.new.table ≡ self.old.table }
-        ensures led { OnOk result (IsLed app.now shelf.now.limits self.old.kernel self.new.kernel
-            (all_of self.old.trail) (all_of self.new.trail)) }
-        ensures passed { OnOk result (AreBehind app.now shelf.now.limits (all_of self.new.trail) self.new.kernel self.new.passed.items) }
-        ensures rest { IfOk result (IsAhead app.now shelf.now.limits shelf.now.base self.old.table.marks.items self.new.kernel) }
+        ensures led { OnOk result (IsLedOn setup.now self.old self.new) }
+        ensures passed { OnOk result (HasPassed setup.now self.new) }
+        ensures rest { IfOk result (IsAheadOf setup.now self.old self.new) }
     {
-        let limits = shelf.limits();
+        let limits = setup.shelf.limits();
         limits.well_formed();
         'marks: loop {
             let until = next_mark(self.spacing.steps(), last, self.kernel.steps());
             let ending = go_far(
                 &mut self.kernel,
-                app,
+                setup.app,
                 injections,
                 until,
                 &limits,
@@ -269,10 +255,10 @@ impl Runner {
             )?;
             if let Some(ending) = ending {
                 self.meetings.count(false);
-                return Ok(ahead_of(ending, shelf.base()));
+                return Ok(ahead_of(ending, setup.shelf.base()));
             }
-            let hint = self.kernel.hint(app);
-            if let Some(rest) = self.known_rest(app, shelf, hint) {
+            let hint = self.kernel.hint(setup.app);
+            if let Some(rest) = self.known_rest(setup, hint) {
                 self.meetings.count(true);
                 return Ok(rest);
             }
@@ -284,83 +270,77 @@ impl Runner {
     // the row is run to its end.
     fn run_from_mark_step(
         &mut self,
-        app: &App,
-        shelf: &Shelf,
+        setup: &Setup<'_>,
         injections: &[Injection],
         last: u32,
         meter: &mut Meter,
     ) -> Result<Ahead, Memory>
-        requires shelf { IsShelf app.now shelf.now }
-        requires past { IsPast app.now shelf.now.limits self.old.kernel injections.now }
-        requires goes { end_of app.now shelf.now.limits (state_after app.now shelf.now.limits injections.now self.old.kernel.steps) ≡ None }
-        requires passed { AreBehind app.now shelf.now.limits (all_of self.old.trail) self.old.kernel self.old.passed.items }
+        requires setup { IsSetup setup.now }
+        requires past { IsPastAll setup.now injections.now self.old }
+        requires goes { end_at setup.now injections.now self.old ≡ None }
+        requires passed { HasPassed setup.now self.old }
         requires meter { meter.old < 2 ^ 62 + self.old.kernel.steps }
         ensures legs { self.new.legs ≡ self.old.legs }
         ensures table { self.new.table ≡ self.old.table }
-        ensures led { OnOk result (IsLed app.now shelf.now.limits self.old.kernel self.new.kernel
-            (all_of self.old.trail) (all_of self.new.trail)) }
-        ensures passed { OnOk result (AreBehind app.now shelf.now.limits (all_of self.new.trail) self.new.kernel self.new.passed.items) }
-        ensures rest { IfOk result (IsAhead app.now shelf.now.limits shelf.now.base self.old.table.marks.items self.new.kernel) }
+        ensures led { OnOk result (IsLedOn setup.now self.old self.new) }
+        ensures passed { OnOk result (HasPassed setup.now self.new) }
+        ensures rest { IfOk result (IsAheadOf setup.now self.old self.new) }
     {
-        let hint = self.kernel.hint(app);
-        if let Some(rest) = self.known_rest(app, shelf, hint) {
+        let hint = self.kernel.hint(setup.app);
+        if let Some(rest) = self.known_rest(setup, hint) {
             return Ok(rest);
         }
         self.note(hint);
         if self.meetings.are_likely() {
-            self.run_on(app, shelf, injections, last, meter)
+            self.run_on(setup, injections, last, meter)
         } else {
-            self.run_out(app, shelf, injections, meter)
+            self.run_out(setup, injections, meter)
         }
     }
 
     // The rest of the row of a point that has come this far, or reached this end.
     fn rest(
         &mut self,
-        app: &App,
-        shelf: &Shelf,
-        view: View,
+        setup: &Setup<'_>,
         point: &Point,
         end: Option<End>,
         meter: &mut Meter,
     ) -> Result<Ahead, Memory>
-        requires shelf { IsShelf app.now shelf.now }
-        requires way { IsUnderWay app.now point.now shelf.now.limits self.old.kernel }
+        requires setup { IsSetup setup.now }
+        requires way { IsOnWay setup.now point.now self.old }
         requires beyond { end ≡ None → last_step point.now < self.old.kernel.steps }
-        requires end { end ≡ end_of app.now shelf.now.limits (state_after app.now shelf.now.limits point.now self.old.kernel.steps) }
-        requires marks { AreMarked app.now shelf.now.limits view shelf.now.base (store_in self.old) self.old.table.marks.items }
-        requires legs { AreLegs shelf.now.base.events (store_in self.old) }
+        requires end { end ≡ end_at setup.now point.now self.old }
+        requires marks { HasMarks setup.now self.old }
+        requires legs { HasLegs setup.now self.old }
         requires passed { self.old.passed.items ≡ [] }
         requires meter { meter.old < 2 ^ 62 + self.old.kernel.steps }
         ensures legs { self.new.legs ≡ self.old.legs }
         ensures table { self.new.table ≡ self.old.table }
-        ensures rest { IfOk result (IsRestOf app.now shelf.now.limits view shelf.now.base
-            (store_in self.old) (store_in self.new) point.now self.old.kernel) }
-        ensures passed { IfOk result (λ rest. AllByRecursion
-            (IsPassed app.now shelf.now.limits view shelf.now.base (store_in self.new) rest) self.new.passed.items) }
+        ensures rest { IfOk result (IsRestOfRow setup.now point.now self.old self.new) }
+        ensures passed { IfOk result (ArePassed setup.now self.new) }
     {
         if let Some(end) = end {
-            return Ok(self.no_rest(app, &shelf.limits(), view, shelf.base(), point, end));
+            return Ok(self.no_rest(setup, point, end));
         }
         point.well_formed();
         let injections = point.injections();
         let last = point.last_step();
-        let rest = self.run_from_mark_step(app, shelf, injections.as_slice(), last, meter)?;
+        let rest = self.run_from_mark_step(setup, injections.as_slice(), last, meter)?;
         Ok(rest)
     }
 
     // The row of a point that isn't reached: it is the base run.
-    fn missed(&self, app: &App, shelf: &Shelf, view: View, point: &Point) -> KeptRow
-        requires shelf { IsShelf app.now shelf.now }
-        requires missed { is_reached app.now shelf.now.limits point.now shelf.now.base.steps ≡ false }
-        requires legs { AreLegs shelf.now.base.events (store_in self.now) }
-        ensures { GainsRow app.now shelf.now.limits view shelf.now.base point.now (store_in self.now) (store_in self.now) result }
+    fn missed(&self, setup: &Setup<'_>, point: &Point) -> KeptRow
+        requires setup { IsSetup setup.now }
+        requires missed { is_reached_in setup.now point.now ≡ false }
+        requires legs { HasLegs setup.now self.now }
+        ensures { RunsRow setup.now point.now self.now self.now result }
     {
-        let base = shelf.base();
+        let base = setup.shelf.base();
         KeptRow {
             point: *point,
             reached: false,
-            shared: shared_by(base, view),
+            shared: shared_by(base, *setup.view),
             told: end_of_base(base),
             steps: base.steps,
             ticks: base.ticks,
@@ -427,25 +407,18 @@ impl Runner {
     }
 
     // The row of a point that is reached, and to whose first injection the walk has come.
-    fn reached(
-        &mut self,
-        app: &App,
-        shelf: &Shelf,
-        view: View,
-        point: &Point,
-        walk: &Walk,
-    ) -> Result<KeptRow, Memory>
-        requires shelf { IsShelf app.now shelf.now }
-        requires walk { IsWalk app.now shelf.now.limits walk.now }
+    fn reached(&mut self, setup: &Setup<'_>, point: &Point, walk: &Walk) -> Result<KeptRow, Memory>
+        requires setup { IsSetup setup.now }
+        requires walk { IsWalkOf setup.now walk.now }
         requires there { walk.now.kernel.steps ≡ first_step point.now }
-        requires beyond { first_step point.now < shelf.now.base.steps }
-        requires reached { is_reached app.now shelf.now.limits point.now shelf.now.base.steps ≡ true }
-        requires legs { AreLegs shelf.now.base.events (store_in self.old) }
-        requires marks { AreMarked app.now shelf.now.limits view shelf.now.base (store_in self.old) self.old.table.marks.items }
-        ensures row { IfOk result (GainsRow app.now shelf.now.limits view shelf.now.base point.now
-            (store_in self.old) (store_in self.new)) }
-        ensures marks { OnOk result (AreMarked app.now shelf.now.limits view shelf.now.base (store_in self.new) self.new.table.marks.items) }
+        requires beyond { first_step point.now < setup.now.shelf.now.base.steps }
+        requires reached { is_reached_in setup.now point.now ≡ true }
+        requires legs { HasLegs setup.now self.old }
+        requires marks { HasMarks setup.now self.old }
+        ensures row { IfOk result (RunsRow setup.now point.now self.old self.new) }
+        ensures marks { OnOk result (HasMarks setup.now self.new) }
     {
+        let shelf = setup.shelf;
         let limits = shelf.limits();
         limits.well_formed();
         let base = shelf.base();
@@ -456,7 +429,7 @@ impl Runner {
         let until = first_mark(&self.spacing, point);
         let mut meter = Meter::new();
         let begun = shelf.begin_row_after(
-            app,
+            setup.app,
             point,
             until,
             walk,
@@ -465,10 +438,10 @@ impl Runner {
             &mut self.log,
             &mut self.trail,
         )?;
-        let rest = self.rest(app, shelf, view, point, begun.end, &mut meter)?;
+        let rest = self.rest(setup, point, begun.end, &mut meter)?;
         let own = self.kernel.steps().saturating_sub(last);
         self.spacing.count_row(own, self.passed.len());
-        if !view.shows_events(rest.end) {
+        if !setup.view.shows_events(rest.end) {
             self.close_without_events(&rest, from, last);
             return Ok(KeptRow {
                 point: *point,
@@ -495,28 +468,32 @@ impl Runner {
     // The row of a point to whose first injection the base run gets. The walk goes there.
     fn beyond(
         &mut self,
-        app: &App,
-        shelf: &Shelf,
-        view: View,
+        setup: &Setup<'_>,
         point: &Point,
         walk: &mut Walk,
     ) -> Result<KeptRow, Memory>
-        requires shelf { IsShelf app.now shelf.now }
-        requires walk { IsWalk app.now shelf.now.limits walk.old }
-        requires beyond { first_step point.now < shelf.now.base.steps }
-        requires legs { AreLegs shelf.now.base.events (store_in self.old) }
-        requires marks { AreMarked app.now shelf.now.limits view shelf.now.base (store_in self.old) self.old.table.marks.items }
-        ensures walk { OnOk result (IsWalk app.now shelf.now.limits walk.new) }
-        ensures row { IfOk result (GainsRow app.now shelf.now.limits view shelf.now.base point.now
-            (store_in self.old) (store_in self.new)) }
-        ensures marks { OnOk result (AreMarked app.now shelf.now.limits view shelf.now.base (store_in self.new) self.new.table.marks.items) }
+        requires setup { IsSetup setup.now }
+        requires walk { IsWalkOf setup.now walk.old }
+        requires beyond { first_step point.now < setup.now.shelf.now.base.steps }
+        requires legs { HasLegs setup.now self.old }
+        requires marks { HasMarks setup.now self.old }
+        ensures walk { OnOk result (IsWalkOf setup.now walk.new) }
+        ensures row { IfOk result (RunsRow setup.now point.now self.old self.new) }
+        ensures marks { OnOk result (HasMarks setup.now self.new) }
     {
         let mut meter = Meter::new();
-        let comes = shelf.walk_to(app, point, walk, &mut meter, &mut self.log, &mut self.trail)?;
+        let comes = setup.shelf.walk_to(
+            setup.app,
+            point,
+            walk,
+            &mut meter,
+            &mut self.log,
+            &mut self.trail,
+        )?;
         if comes {
-            self.reached(app, shelf, view, point, walk)
+            self.reached(setup, point, walk)
         } else {
-            Ok(self.missed(app, shelf, view, point))
+            Ok(self.missed(setup, point))
         }
     }
 
@@ -525,25 +502,22 @@ impl Runner {
     /// and the walk can't be used any more.
     pub(crate) fn run(
         &mut self,
-        app: &App,
-        shelf: &Shelf,
-        view: View,
+        setup: &Setup<'_>,
         point: &Point,
         walk: &mut Walk,
     ) -> Result<KeptRow, Memory>
-        requires shelf { IsShelf app.now shelf.now }
-        requires walk { IsWalk app.now shelf.now.limits walk.old }
-        requires legs { AreLegs shelf.now.base.events (store_in self.old) }
-        requires marks { AreMarked app.now shelf.now.limits view shelf.now.base (store_in self.old) self.old.table.marks.items }
-        ensures walk { OnOk result (IsWalk app.now shelf.now.limits walk.new) }
-        ensures row { IfOk result (GainsRow app.now shelf.now.limits view shelf.now.base point.now
-            (store_in self.old) (store_in self.new)) }
-        ensures marks { OnOk result (AreMarked app.now shelf.now.limits view shelf.now.base (store_in self.new) self.new.table.marks.items) }
+        requires setup { IsSetup setup.now }
+        requires walk { IsWalkOf setup.now walk.old }
+        requires legs { HasLegs setup.now self.old }
+        requires marks { HasMarks setup.now self.old }
+        ensures walk { OnOk result (IsWalkOf setup.now walk.new) }
+        ensures row { IfOk result (RunsRow setup.now point.now self.old self.new) }
+        ensures marks { OnOk result (HasMarks setup.now self.new) }
     {
-        if shelf.gets_to(point) {
-            self.beyond(app, shelf, view, point, walk)
+        if setup.shelf.gets_to(point) {
+            self.beyond(setup, point, walk)
         } else {
-            Ok(self.missed(app, shelf, view, point))
+            Ok(self.missed(setup, point))
         }
     }
 }

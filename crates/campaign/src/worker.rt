@@ -1,36 +1,25 @@
 //! A worker, which makes the rows of the blocks that its lane returns.
 ghost use Rattle.std.specs.Prelude.{◌≡◌, ◌<◌, ◌≤◌, ◌+◌, ◌^◌, ◌++◌, ◌∷◌, ℕ, [], None, length, slice_index, sum, take, drop, IfOk, IfSome, OnOk};
 ghost use Rattle.model.specs.Application.{Limits};
-ghost use Rattle.shelf.specs.Shelves.{IsShelf};
 ghost use Rattle.shelf.specs.Walks.{IsWalk};
-ghost use Rattle.campaign.specs.Working.{counted, store_in, GainsRows, HasRoom, IsAmong, IsDone, IsJob, KeepsRow};
-ghost use Rattle.campaign.specs.Marks.{AreMarked, Knows};
-ghost use Rattle.campaign.specs.Setup.{work_of};
+ghost use Rattle.campaign.specs.Running.{HasMarks, KnowsRows, MakesRow, MakesRows};
+ghost use Rattle.campaign.specs.Setup.{work_of, IsSetup, IsWalkOf};
+ghost use Rattle.campaign.specs.Working.{counted, HasRoom, IsAmong, IsDone, IsJob};
 
 use crate::gate::Gate;
 use crate::recent::Recent;
 use crate::runner::Runner;
+use crate::setup::Setup;
 use crate::spacing::Spacing;
 use crate::tallying::RowCounts;
 use crate::timers::Timers;
-use deal::{Lane, Next, Tally, TallySeat};
+use deal::{Lane, Next, TallySeat};
 use model::{App, End, Memory, Point};
-use report::View;
 use rows::{KeptBlock, KeptRow, KeptRows, Part};
-use shelf::{Shelf, Walk};
+use shelf::Walk;
 use std::alloc::Global;
 use std::sync::Wait;
 use std::sync::atomic::{AtomicU64, Ordering};
-
-/// What all workers of a campaign share.
-#[derive(Clone, Copy)]
-pub(crate) struct Setup<'a> {
-    pub(crate) app: &'a App,
-    pub(crate) shelf: &'a Shelf,
-    pub(crate) view: &'a View,
-    pub(crate) points: &'a [Point],
-    pub(crate) tally: &'a Tally,
-}
 
 /// What a worker is given: its number, its lane and its seat, and the room for its rows. None is
 /// made yet.
@@ -116,28 +105,21 @@ impl Worker {
 
     // Keeps the row of a point: once more that of the same point before, if it is found, otherwise
     // it is made. Returns its outcome.
-    fn keep_row(
-        &mut self,
-        app: &App,
-        shelf: &Shelf,
-        view: View,
-        point: &Point,
-    ) -> Result<Outcome, Memory>
-        requires shelf { IsShelf app.now shelf.now }
-        requires walk { IsWalk app.now shelf.now.limits self.old.walk }
-        requires known { Knows app.now shelf.now.limits view shelf.now.base self.old.kept (store_in self.old.runner) self.old.runner.table.marks.items }
-        ensures walk { OnOk result (IsWalk app.now shelf.now.limits self.new.walk) }
+    fn keep_row(&mut self, setup: &Setup<'_>, point: &Point) -> Result<Outcome, Memory>
+        requires setup { IsSetup setup.now }
+        requires walk { IsWalkOf setup.now self.old.walk }
+        requires known { KnowsRows setup.now self.old }
+        ensures walk { OnOk result (IsWalkOf setup.now self.new.walk) }
         ensures blocks { self.new.blocks ≡ self.old.blocks }
-        ensures row { IfOk result (KeepsRow app.now shelf.now.limits view shelf.now.base point.now self.old.kept self.new.kept
-            (store_in self.old.runner) (store_in self.new.runner)) }
-        ensures marks { OnOk result (AreMarked app.now shelf.now.limits view shelf.now.base (store_in self.new.runner) self.new.runner.table.marks.items) }
+        ensures row { IfOk result (MakesRow setup.now point.now self.old self.new) }
+        ensures marks { OnOk result (HasMarks setup.now self.new.runner) }
     {
         if let Some(number) = again(&self.kept, &self.recent, point) {
             let outcome = Outcome::of(self.kept.at(number));
             self.kept.repeat(number)?;
             return Ok(outcome);
         }
-        let row = self.runner.run(app, shelf, view, point, &mut self.walk)?;
+        let row = self.runner.run(setup, point, &mut self.walk)?;
         let outcome = Outcome::of(&row);
         self.recent.set(point, self.kept.len());
         self.kept.push(row)?;
@@ -152,18 +134,17 @@ impl Worker {
         counts: &mut RowCounts,
         point: &Point,
     ) -> Result<(), Memory>
-        requires shelf { IsShelf setup.now.app.now setup.now.shelf.now }
-        requires walk { IsWalk setup.now.app.now setup.now.shelf.now.limits self.old.walk }
-        requires known { Knows setup.now.app.now setup.now.shelf.now.limits setup.now.view.now setup.now.shelf.now.base self.old.kept (store_in self.old.runner) self.old.runner.table.marks.items }
+        requires setup { IsSetup setup.now }
+        requires walk { IsWalkOf setup.now self.old.walk }
+        requires known { KnowsRows setup.now self.old }
         requires room { (kind : ℕ) → kind < 7 → slice_index counts.old.kinds kind + 1 ≤ 2 ^ 40 }
-        ensures walk { OnOk result (IsWalk setup.now.app.now setup.now.shelf.now.limits self.new.walk) }
-        ensures known { OnOk result (Knows setup.now.app.now setup.now.shelf.now.limits setup.now.view.now setup.now.shelf.now.base self.new.kept (store_in self.new.runner) self.new.runner.table.marks.items) }
+        ensures walk { OnOk result (IsWalkOf setup.now self.new.walk) }
+        ensures known { OnOk result (KnowsRows setup.now self.new) }
         ensures blocks { self.new.blocks ≡ self.old.blocks }
-        ensures row { OnOk result (GainsRows setup.now.app.now setup.now.shelf.now.limits setup.now.view.now setup.now.shelf.now.base (point.now ∷ [])
-            self.old.kept self.new.kept (store_in self.old.runner) (store_in self.new.runner)
+        ensures row { OnOk result (MakesRows setup.now (point.now ∷ []) self.old self.new
             (counted setup.now.tally.now counts.old.kinds) (counted setup.now.tally.now counts.new.kinds)) }
     {
-        let outcome = self.keep_row(setup.app, setup.shelf, *setup.view, point)?;
+        let outcome = self.keep_row(setup, point)?;
         counts.count(outcome.reached, outcome.end);
         Ok(())
     }
@@ -177,19 +158,18 @@ impl Worker {
         first: usize,
         count: usize,
     ) -> Result<(), Memory>
-        requires shelf { IsShelf setup.now.app.now setup.now.shelf.now }
-        requires walk { IsWalk setup.now.app.now setup.now.shelf.now.limits self.old.walk }
-        requires known { Knows setup.now.app.now setup.now.shelf.now.limits setup.now.view.now setup.now.shelf.now.base self.old.kept (store_in self.old.runner) self.old.runner.table.marks.items }
+        requires setup { IsSetup setup.now }
+        requires walk { IsWalkOf setup.now self.old.walk }
+        requires known { KnowsRows setup.now self.old }
         requires seat { seat.old.sheet ≡ setup.now.tally.now }
         requires points { first + count ≤ length setup.now.points.now }
         requires room { HasRoom count seat.old }
-        ensures walk { OnOk result (IsWalk setup.now.app.now setup.now.shelf.now.limits self.new.walk) }
-        ensures known { OnOk result (Knows setup.now.app.now setup.now.shelf.now.limits setup.now.view.now setup.now.shelf.now.base self.new.kept (store_in self.new.runner) self.new.runner.table.marks.items) }
+        ensures walk { OnOk result (IsWalkOf setup.now self.new.walk) }
+        ensures known { OnOk result (KnowsRows setup.now self.new) }
         ensures block { OnOk result (self.new.blocks.items ≡ self.old.blocks.items
             ++ record { number = number; first = length self.old.kept; count = count } ∷ []) }
-        ensures rows { OnOk result (GainsRows setup.now.app.now setup.now.shelf.now.limits setup.now.view.now setup.now.shelf.now.base
-            (take count (drop first setup.now.points.now))
-            self.old.kept self.new.kept (store_in self.old.runner) (store_in self.new.runner) seat.old seat.new) }
+        ensures rows { OnOk result (MakesRows setup.now (take count (drop first setup.now.points.now))
+            self.old self.new seat.old seat.new) }
     {
         let points = &setup.points[first..first + count];
         let block = KeptBlock {
@@ -219,7 +199,7 @@ pub(crate) fn work<R: Wait, G: Gate>(
     stop: &AtomicU64,
     job: Job,
 ) -> Done
-    requires shelf { IsShelf setup.now.app.now setup.now.shelf.now }
+    requires setup { IsSetup setup.now }
     requires points { sum job.lane.game.lengths ≡ length setup.now.points.now }
     requires job { IsJob job.lane.game setup.now.tally.now (length setup.now.points.now) job }
     ensures { IsDone (work_of setup.now job.lane.game.lengths) job result }

@@ -1,4 +1,3 @@
-use Rattle.std.proofs.Common.{◌∙◌}
 use Rattle.campaign.proofs.Naming.{not_refused}
 use Rattle.campaign.proofs.named.point_of.Goals as goal
 

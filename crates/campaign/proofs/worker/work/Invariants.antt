@@ -1,7 +1,6 @@
 use Rattle.std.proofs.Common.{◌≡◌, true}
-use Rattle.shelf.specs.Walks.{IsWalk}
-use Rattle.campaign.specs.Setup.{work_of}
-use Rattle.campaign.specs.Marks.{Knows}
+use Rattle.campaign.specs.Running.{KnowsRows}
+use Rattle.campaign.specs.Setup.{work_of, IsWalkOf}
 use Rattle.campaign.specs.Working.{store_in}
 use Rattle.campaign.proofs.Blocks.{HasWorked}
 use Rattle.campaign.proofs.worker.work.Given as goal
@@ -12,9 +11,8 @@ invariant-loop g l = record {
   finite : (goal.iterator-loop g).is_finite l.iterator';
   refused : l.refused ≡ true;
   game : l.lane.game ≡ l.fn.job.lane.game;
-  walk : IsWalk l.setup.app.now l.setup.shelf.now.limits l.worker.walk;
-  known : Knows l.setup.app.now l.setup.shelf.now.limits l.setup.view.now l.setup.shelf.now.base
-      l.worker.kept (store_in l.worker.runner) l.worker.runner.table.marks.items;
+  walk : IsWalkOf l.setup l.worker.walk;
+  known : KnowsRows l.setup l.worker;
   worked : HasWorked (work_of l.setup l.fn.job.lane.game.lengths) l.worker.kept
       (store_in l.worker.runner) l.worker.blocks.items l.lane.answered l.fn.job.seat l.seat;
 }

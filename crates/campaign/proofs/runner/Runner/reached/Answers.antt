@@ -13,12 +13,12 @@ use Rattle.campaign.proofs.runner.Runner.reached.Goals as goal
 
 pub rest-requires-clause-marks : goal.rest-requires-clause-marks
 rest-requires-clause-marks c =
-    let shelf = c.args.shelf.now in
+    let shelf = c.args.setup.now.shelf.now in
     let begun = c.in_ok-begun.ensures.begun in
     let old = store_in c.args.self.now in
     let mid : Store = record { trail = all_of c.begin_row_after.new.trail; legs = c.args.self.now.legs.items } in
     let grown : Grows old mid = record { own = begun.own; trail = begun.kept; more = []; legs = sym (append-nil old.legs) } in
-    still_marked c.args.app.now shelf.limits c.args.view shelf.base old mid
+    still_marked c.args.setup.now.app.now shelf.limits c.args.setup.now.view.now shelf.base old mid
     c.requires.legs grown c.args.self.now.table.marks.items c.requires.marks
 
 pub rest-requires-clause-legs : goal.rest-requires-clause-legs
@@ -27,20 +27,20 @@ rest-requires-clause-legs c =
     let old = store_in c.args.self.now in
     let mid : Store = record { trail = all_of c.begin_row_after.new.trail; legs = c.args.self.now.legs.items } in
     let grown : Grows old mid = record { own = begun.own; trail = begun.kept; more = []; legs = sym (append-nil old.legs) } in
-    same_legs c.args.shelf.now.base.events old c.requires.legs mid grown refl
+    same_legs c.args.setup.now.shelf.now.base.events old c.requires.legs mid grown refl
 
 pub returns-clause-row : goal.returns-clause-row
 returns-clause-row c =
-    let shelf = c.args.shelf.now in
+    let shelf = c.args.setup.now.shelf.now in
     let begun = c.in_ok-begun.ensures in
     let rest = c.in_ok-rest.ensures in
     let closed = c.in_ok-told.ensures in
     let mid : Store = record { trail = all_of c.begin_row_after.new.trail; legs = c.args.self.now.legs.items } in
     let over = store_in c.rest.new.self in
-    let goes : IsRestOf c.args.app.now shelf.limits c.args.view shelf.base
+    let goes : IsRestOf c.args.setup.now.app.now shelf.limits c.args.setup.now.view.now shelf.base
     mid over c.args.point.now c.begin_row_after.new.kernel c.in_ok-rest.rest =
     rest.rest in
-    reached_row c.args.app.now shelf.limits c.args.view shelf.base c.requires.shelf.is_base
+    reached_row c.args.setup.now.app.now shelf.limits c.args.setup.now.view.now shelf.base c.requires.setup.is_base
     c.args.point.now (store_in c.args.self.now) mid over c.begin_row_after.new.kernel c.in_ok-begun.begun
     c.requires.legs begun.begun refl c.in_ok-rest.rest goes (ap (λ v. v.items) rest.legs)
     (store_in c.close.new.self) begun.before c.requires.beyond c.requires.reached
@@ -49,9 +49,9 @@ returns-clause-row c =
 
 pub returns-clause-marks : goal.returns-clause-marks
 returns-clause-marks c =
-    let app = c.args.app.now in
-    let view = c.args.view in
-    let shelf = c.args.shelf.now in
+    let app = c.args.setup.now.app.now in
+    let view = c.args.setup.now.view.now in
+    let shelf = c.args.setup.now.shelf.now in
     let begun = c.in_ok-begun.ensures in
     let rest = c.in_ok-rest.ensures in
     let closed = c.in_ok-told.ensures in
@@ -61,7 +61,7 @@ returns-clause-marks c =
     let goes : IsRestOf app shelf.limits view shelf.base mid over c.args.point.now c.begin_row_after.new.kernel c.in_ok-rest.rest =
     rest.rest in
     let legs =
-    its_legs app shelf.limits view shelf.base c.requires.shelf.is_base c.args.point.now
+    its_legs app shelf.limits view shelf.base c.requires.setup.is_base c.args.point.now
     (store_in c.args.self.now) mid over c.begin_row_after.new.kernel c.in_ok-begun.begun
     c.requires.legs begun.begun refl c.in_ok-rest.rest goes (ap (λ v. v.items) rest.legs) in
     let still =
@@ -74,17 +74,17 @@ returns-clause-marks c =
 
 pub returns-then-not-shows_events-clause-row : goal.returns-then-not-shows_events-clause-row
 returns-then-not-shows_events-clause-row c =
-    let shelf = c.args.shelf.now in
+    let shelf = c.args.setup.now.shelf.now in
     let begun = c.in_ok-begun.ensures in
     let rest = c.in_ok-rest.ensures in
     let closed = c.close_without_events.ensures in
     let mid : Store = record { trail = all_of c.begin_row_after.new.trail; legs = c.args.self.now.legs.items } in
     let over = store_in c.rest.new.self in
-    let goes : IsRestOf c.args.app.now shelf.limits c.args.view shelf.base
+    let goes : IsRestOf c.args.setup.now.app.now shelf.limits c.args.setup.now.view.now shelf.base
     mid over c.args.point.now c.begin_row_after.new.kernel c.in_ok-rest.rest =
     rest.rest in
     let told = subst (λ (b : Run). c.end_of_base.result ≡ link.Base (length b.events)) c.base-base.ensures c.end_of_base.ensures in
-    bare_row c.args.app.now shelf.limits c.args.view shelf.base c.requires.shelf.is_base
+    bare_row c.args.setup.now.app.now shelf.limits c.args.setup.now.view.now shelf.base c.requires.setup.is_base
     c.args.point.now (store_in c.args.self.now) mid over c.begin_row_after.new.kernel c.in_ok-begun.begun
     c.requires.legs begun.begun refl c.in_ok-rest.rest goes (ap (λ v. v.items) rest.legs)
     (store_in c.close_without_events.new.self) c.requires.reached
@@ -93,9 +93,9 @@ returns-then-not-shows_events-clause-row c =
 
 pub returns-then-not-shows_events-clause-marks : goal.returns-then-not-shows_events-clause-marks
 returns-then-not-shows_events-clause-marks c =
-    let app = c.args.app.now in
-    let view = c.args.view in
-    let shelf = c.args.shelf.now in
+    let app = c.args.setup.now.app.now in
+    let view = c.args.setup.now.view.now in
+    let shelf = c.args.setup.now.shelf.now in
     let rest = c.in_ok-rest.ensures in
     let closed = c.close_without_events.ensures in
     let over = store_in c.rest.new.self in

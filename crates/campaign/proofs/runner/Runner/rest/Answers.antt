@@ -15,9 +15,9 @@ run_from_mark_step-requires-clause-past c =
 
 pub returns-clause-rest : goal.returns-clause-rest
 returns-clause-rest c =
-    let app = c.args.app.now in
-    let view = c.args.view in
-    let shelf = c.args.shelf.now in
+    let app = c.args.setup.now.app.now in
+    let view = c.args.setup.now.view.now in
+    let shelf = c.args.setup.now.shelf.now in
     let old = store_in c.args.self.now in
     let new = store_in c.run_from_mark_step.new.self in
     let now = c.run_from_mark_step.new.self.kernel in
@@ -34,9 +34,9 @@ returns-clause-rest c =
 
 pub returns-clause-passed : goal.returns-clause-passed
 returns-clause-passed c =
-    let app = c.args.app.now in
-    let view = c.args.view in
-    let shelf = c.args.shelf.now in
+    let app = c.args.setup.now.app.now in
+    let view = c.args.setup.now.view.now in
+    let shelf = c.args.setup.now.shelf.now in
     let old = store_in c.args.self.now in
     let new = store_in c.run_from_mark_step.new.self in
     let now = c.run_from_mark_step.new.self.kernel in

@@ -7,40 +7,40 @@ use Rattle.campaign.proofs.runner.Runner.run_on.Goals as goal
 
 pub returns-in-Some-clause-led : goal.returns-in-Some-clause-led
 returns-in-Some-clause-led c =
-    let app = c.args.app.now in
-    let limits = c.args.shelf.now.limits in
+    let app = c.args.setup.now.app.now in
+    let limits = c.args.setup.now.shelf.now.limits in
     let step : IsLed app limits c.marks.self.kernel c.go_far.new.kernel (all_of c.marks.self.trail) (all_of c.go_far.new.trail) =
     rw c.limits-limits.ensures at c.in_ok-ending.ensures.led in
     led_then app limits c.args.self.now.kernel c.marks.self.kernel c.go_far.new.kernel _ _ _ c.marks.invariant.led step
 
 pub returns-in-Some-clause-passed : goal.returns-in-Some-clause-passed
 returns-in-Some-clause-passed c =
-    let app = c.args.app.now in
-    let limits = c.args.shelf.now.limits in
+    let app = c.args.setup.now.app.now in
+    let limits = c.args.setup.now.shelf.now.limits in
     let step : IsLed app limits c.marks.self.kernel c.go_far.new.kernel (all_of c.marks.self.trail) (all_of c.go_far.new.trail) =
     rw c.limits-limits.ensures at c.in_ok-ending.ensures.led in
     behind_on app limits _ _ c.marks.self.kernel c.go_far.new.kernel step c.marks.self.passed.items c.marks.invariant.passed
 
 pub returns-in-Some-known_rest-clause-led : goal.returns-in-Some-known_rest-clause-led
 returns-in-Some-known_rest-clause-led c =
-    let app = c.args.app.now in
-    let limits = c.args.shelf.now.limits in
+    let app = c.args.setup.now.app.now in
+    let limits = c.args.setup.now.shelf.now.limits in
     let step : IsLed app limits c.marks.self.kernel c.go_far.new.kernel (all_of c.marks.self.trail) (all_of c.go_far.new.trail) =
     rw c.limits-limits.ensures at c.in_ok-ending.ensures.led in
     led_then app limits c.args.self.now.kernel c.marks.self.kernel c.go_far.new.kernel _ _ _ c.marks.invariant.led step
 
 pub returns-in-Some-known_rest-clause-passed : goal.returns-in-Some-known_rest-clause-passed
 returns-in-Some-known_rest-clause-passed c =
-    let app = c.args.app.now in
-    let limits = c.args.shelf.now.limits in
+    let app = c.args.setup.now.app.now in
+    let limits = c.args.setup.now.shelf.now.limits in
     let step : IsLed app limits c.marks.self.kernel c.go_far.new.kernel (all_of c.marks.self.trail) (all_of c.go_far.new.trail) =
     rw c.limits-limits.ensures at c.in_ok-ending.ensures.led in
     behind_on app limits _ _ c.marks.self.kernel c.go_far.new.kernel step c.marks.self.passed.items c.marks.invariant.passed
 
 pub marks-preserved : goal.marks-preserved
 marks-preserved c =
-    let app = c.args.app.now in
-    let limits = c.args.shelf.now.limits in
+    let app = c.args.setup.now.app.now in
+    let limits = c.args.setup.now.shelf.now.limits in
     let old = c.marks.self.kernel in
     let new = c.go_far.new.kernel in
     let step : IsLed app limits old new (all_of c.marks.self.trail) (all_of c.go_far.new.trail) =

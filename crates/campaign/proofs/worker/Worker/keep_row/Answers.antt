@@ -4,8 +4,9 @@ use Rattle.campaign.proofs.worker.Worker.keep_row.Goals as goal
 
 pub returns-in-Some-clause-row : goal.returns-in-Some-clause-row
 returns-in-Some-clause-row c =
-    let shelf = c.args.shelf.now in
+    let setup = c.args.setup.now in
+    let shelf = setup.shelf.now in
     let own = c.args.self.now in
-    kept_again c.args.app.now shelf.limits c.args.view shelf.base c.args.point.now (store_in own.runner)
+    kept_again setup.app.now shelf.limits setup.view.now shelf.base c.args.point.now (store_in own.runner)
     own.kept c.repeat.new.self c.in-Some.number c.requires.known.legs c.requires.known.rows
     c.in-Some.ensures c.in_ok-repeat.ensures c.at.result.now c.at.ensures c.of-outcome.result c.of-outcome.ensures
