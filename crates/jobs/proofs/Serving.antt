@@ -1,7 +1,7 @@
 -- What a job comes to over its file, of whose bytes nothing need be known.
 use Rattle.std.proofs.Common.{◌≡◌, ◌≢◌, ◌≤◌, ℕ, Bool, true, false, List, [], length, ◌⊎◌, inl, inr, Option, Some, None}
-use Rattle.std.proofs.Common.{option_map, refl}
-use Rattle.std.specs.Prelude.{Ok, Err, Result, IfSome}
+use Rattle.std.proofs.Common.{Global, Vec, option_map, refl, subst, sym}
+use Rattle.std.specs.Prelude.{Ok, Err, Result, IfErr, IfOk, IfSome, MatchResult}
 use Rattle.std.proofs.KnownBytes.{Keeps-refl}
 use Rattle.campaign.specs.declared.file.ServeFault.{ServeFault}
 use Rattle.campaign.specs.declared.file.ServeFault.TheVariants.{Read, NotToml, Load, UnknownHandler, TooManyPoints, Memory, Write}
@@ -16,7 +16,7 @@ use Rattle.jobs.specs.declared.run_job.JobFault.{JobFault}
 use Rattle.jobs.specs.declared.run_job.JobFault.TheVariants.{Serve, TooLarge, Unpaired}
 use Rattle.jobs.proofs.EndStates.{end_state_file_fault}
 use Rattle.jobs.proofs.Explorations.{exploration_file_fault}
-use Rattle.jobs.specs.Acting.{Served, Does, DoesOverFile, FailsToRead, LacksFile, OpensAndDoes, ReadsFor}
+use Rattle.jobs.specs.Acting.{Served, Does, DoesAsRead, DoesOverFile, FailsToRead, LacksFile, OpensAndDoes, ReadsFor}
 use Rattle.jobs.specs.Passing.{IsServed}
 use Rattle.requests.specs.Jobs.{is_unpaired}
 use Rattle.jobs.specs.Acting.{most_bytes}
@@ -85,7 +85,7 @@ module _ (job : Job) (file : Option (List ℕ)) (bytes : List ℕ) (old new : Op
   over_file (Err (Serve TooManyPoints)) h = does_whole (Err (Serve TooManyPoints)) h.0 h
   over_file (Err (Serve Write)) h = does_whole (Err (Serve Write)) h.0 h
 
-pub does_over_file : (job : Job) (file : Option (List ℕ)) (bytes : List ℕ) (rf : Bool)
+does_over_file : (job : Job) (file : Option (List ℕ)) (bytes : List ℕ) (rf : Bool)
     (old new : Option (List ℕ)) (wf : Bool) (outcome : Result Bool JobFault)
     → ReadsFor job file rf bytes → length bytes ≤ most_bytes
     → Does job (streams_of (Some bytes) false old new wf) outcome → DoesOverFile job (streams_of file rf old new wf) outcome
@@ -104,7 +104,7 @@ does_all job input bytes old new wf (Err (Serve fault)) reads h =
 does_all job input bytes old new wf (Err TooLarge) reads h = absurd h
 does_all job input bytes old new wf (Err Unpaired) reads h = h
 
-pub does_over_all : (job : Job) (input : Option (List ℕ)) (bytes : List ℕ) (rf : Bool)
+does_over_all : (job : Job) (input : Option (List ℕ)) (bytes : List ℕ) (rf : Bool)
     (old new : Option (List ℕ)) (wf : Bool) (outcome : Result Bool JobFault)
     → ReadsFor job input rf bytes
     → Does job (streams_of (Some bytes) false old new wf) outcome → Does job (streams_of input rf old new wf) outcome
@@ -139,7 +139,7 @@ served_fault (Explore name injections handlers) file rf wf old read.Memory paire
     exploration_file_fault injections (option_map (λ list. list.now) handlers) file rf wf
     old Memory (reading_failed file read.Memory some) failed refl working
 
-pub fails_to_read : (job : Job) (file : Option (List ℕ)) (rf wf : Bool) (old : Option (List ℕ)) (fault : ServeFault)
+fails_to_read : (job : Job) (file : Option (List ℕ)) (rf wf : Bool) (old : Option (List ℕ)) (fault : ServeFault)
     → FailsToRead job file rf (Serve fault) → wf ≡ false → Does job (streams_of file rf old old wf) (Err (Serve fault))
 fails_to_read job file rf wf old Read h working =
     (h.0, served_fault job file rf wf old read.Failed h.0 (λ e. absurd (cc)) h.1 working)
@@ -150,7 +150,7 @@ fails_to_read job file rf wf old (UnknownHandler place) h working = absurd h
 fails_to_read job file rf wf old TooManyPoints h working = absurd h
 fails_to_read job file rf wf old Write h working = absurd h
 
-pub fails_over_file : (job : Job) (file : Option (List ℕ)) (rf wf : Bool) (old : Option (List ℕ)) (fault : JobFault)
+fails_over_file : (job : Job) (file : Option (List ℕ)) (rf wf : Bool) (old : Option (List ℕ)) (fault : JobFault)
     → FailsToRead job file rf fault → wf ≡ false → DoesOverFile job (streams_of file rf old old wf) (Err fault)
 fails_over_file job file rf wf old TooLarge h working = (h.0, h.2, h.1, Keeps-refl old, working)
 fails_over_file job file rf wf old Unpaired h working = absurd h
@@ -161,6 +161,32 @@ fails_over_file job file rf wf old (Serve (Load fault)) h working = absurd h
 fails_over_file job file rf wf old (Serve (UnknownHandler place)) h working = absurd h
 fails_over_file job file rf wf old (Serve TooManyPoints) h working = absurd h
 fails_over_file job file rf wf old (Serve Write) h working = absurd h
+
+-- A job that is done over what was read is done over the source.
+pub acts_over_all : (job : Job) (read : Result (Vec ℕ Global) JobFault) (input : Option (List ℕ)) (rf : Bool)
+    (old new : Option (List ℕ)) (wf : Bool) (outcome : Result Bool JobFault)
+    → MatchResult read (λ bytes. ReadsFor job input rf bytes.items) (FailsToRead job input rf)
+    → IfErr read (λ fault. fault ≢ TooLarge) → DoesAsRead job read old new wf outcome
+    → Does job (streams_of input rf old new wf) outcome
+acts_over_all job (Ok bytes) input rf old new wf outcome reads any_size done =
+    does_over_all job input bytes.items rf old new wf outcome reads done
+acts_over_all job (Err TooLarge) input rf old new wf outcome reads any_size done = absurd (any_size refl)
+acts_over_all job (Err Unpaired) input rf old new wf outcome reads any_size done = absurd reads
+acts_over_all job (Err (Serve fault)) input rf old new wf outcome reads any_size done =
+    rw (done.0, done.1) (fails_to_read job input rf wf old fault reads done.2)
+
+-- So is it over a file.
+pub acts_over_file : (job : Job) (read : Result (Vec ℕ Global) JobFault) (file : Option (List ℕ)) (rf : Bool)
+    (old new : Option (List ℕ)) (wf : Bool) (outcome : Result Bool JobFault)
+    → MatchResult read (λ bytes. ReadsFor job file rf bytes.items) (FailsToRead job file rf)
+    → IfOk read (λ bytes. length bytes.items ≤ most_bytes) → DoesAsRead job read old new wf outcome
+    → DoesOverFile job (streams_of file rf old new wf) outcome
+acts_over_file job (Ok bytes) file rf old new wf outcome reads few done =
+    does_over_file job file bytes.items rf old new wf outcome reads few done
+acts_over_file job (Err fault) file rf old new wf outcome reads few done =
+    subst (λ (o : Result Bool JobFault). DoesOverFile job (streams_of file rf old new wf) o) (sym done.0)
+    (subst (λ (after : Option (List ℕ)). DoesOverFile job (streams_of file rf old after wf) (Err fault)) (sym done.1)
+    (fails_over_file job file rf wf old fault reads done.2))
 
 -- A file that was opened, whose bytes nobody knows.
 no_more_known : (job : Job) (streams : Streams) (outcome : Result Bool JobFault)

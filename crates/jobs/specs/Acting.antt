@@ -1,6 +1,7 @@
 -- The outcome of a job; the program's status and fault lines.
 use Rattle.std.specs.Prelude.{◌≡◌, ◌≢◌, ◌⊎◌, ◌==◌, ◌<◌, ◌≤◌, ◌*◌, ◌^◌, ℕ, length, IfSome, Bool, true, false, List, [], ◌∷◌, ◌++◌}
-use Rattle.std.specs.Prelude.{codes, decimal, Option, Some, None, Result, Ok, Err, option_map}
+use Rattle.std.specs.Prelude.{codes, decimal, Option, Some, None, Result, Ok, Err, Vec, option_map}
+use Rattle.std.specs.declared.alloc.Global.{Global}
 use Rattle.std.specs.Io.KnownBytes.{Appends, Keeps}
 use Rattle.byte_io.specs.Bytes.{SentFront}
 use Rattle.byte_io.specs.Line.{joined_line}
@@ -18,6 +19,7 @@ use Rattle.jobs.specs.EndStates.{ServesEndState}
 use Rattle.jobs.specs.Explorations.{ServesExploration}
 use Rattle.jobs.specs.Passing.{IsServed}
 use Rattle.requests.specs.declared.job.Job.{Job}
+use Rattle.requests.specs.declared.named_point.NamedPoint.{NamedPoint}
 use Rattle.requests.specs.declared.job.Job.TheVariants.{Run, RunUnpaired, Campaign, Explore}
 use Rattle.requests.specs.Jobs.{file_of, handler_of, is_unpaired}
 use Rattle.jobs.specs.declared.run_job.JobFault.{JobFault}
@@ -138,3 +140,17 @@ told job (Err fault) = fault_line (name_told job fault) fault
 abbrev pub Tells : (old new : Option (List ℕ)) → (failed : Bool) → (text : List ℕ) → Type 0
 Tells old new false text = Appends old new text
 Tells old new true text = SentFront old new text
+
+-- ---- what the functions pass on to each other: no reader need believe it
+
+-- A run is served, with its end state or without, and passes or not.
+abbrev pub ServesRunAt : Option NamedPoint → (state : Bool) → Streams → Result Bool ServeFault → Type 0
+ServesRunAt point false streams outcome = IsServed is_pass (ServesRun point streams) outcome
+ServesRunAt point true streams outcome = IsServed is_pass (ServesEndState point streams) outcome
+
+-- The outcome of a job over what was read of its file: the job is done over these bytes, or they were not read, and nothing is
+-- written.
+abbrev pub DoesAsRead : Job → Result (Vec ℕ Global) JobFault → (old new : Option (List ℕ)) → (write_failed : Bool)
+    → Result Bool JobFault → Type 0
+DoesAsRead job (Ok bytes) old new write_failed outcome = Does job (streams_of (Some bytes.items) false old new write_failed) outcome
+DoesAsRead job (Err fault) old new write_failed outcome = (outcome ≡ Err fault) × (new ≡ old) × (write_failed ≡ false)

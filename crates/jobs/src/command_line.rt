@@ -8,6 +8,7 @@ ghost use Rattle.clap.specs.declared.error.kind.ErrorKind.TheVariants.{OutOfMemo
 ghost use Rattle.jobs.specs.Obeying.{Concludes, Obeys, RefusesWords, ShownTells, Shows, shown_status};
 ghost use Rattle.requests.specs.Processors.{meant};
 
+use crate::host::Host;
 use crate::run_job::{open_and_act, refuse};
 use byte_io::{Sink, WriteFault, put_all, put_lines};
 use campaign::{Gate, ServeFault};
@@ -98,12 +99,10 @@ pub fn conclude_error<W: Sink, F: Sink>(
 
 // Does what these words ask for, in which `auto` means nothing.
 fn obey_meant<T: Threads + Wait + Files + Sync, W: Sink, F: Sink, G: Gate + Watch + Sync>(
-    rt: &T,
-    alloc: Global,
+    host: &Host<'_, T, G>,
     words: &[String],
     writer: &mut W,
     faults: &mut F,
-    gate: &G,
 ) -> u8
     requires writes { W.has_failed writer.old ≡ false }
     requires tells { F.has_failed faults.old ≡ false }
@@ -111,24 +110,23 @@ fn obey_meant<T: Threads + Wait + Files + Sync, W: Sink, F: Sink, G: Gate + Watc
         (W.held writer.old) (W.held writer.new) (W.has_failed writer.new)
         (F.held faults.old) (F.held faults.new) (F.has_failed faults.new) result }
 {
-    match job_named(alloc, words) {
-        Ok(job) => open_and_act(rt, alloc, &job, writer, faults, gate),
-        Err(error) => conclude_error(alloc, &error, writer, faults),
+    match job_named(host.alloc, words) {
+        Ok(job) => open_and_act(host, &job, writer, faults),
+        Err(error) => conclude_error(host.alloc, &error, writer, faults),
     }
 }
 
-/// Does what the words ask for: a job over the two sinks, or to show help or the version, or to say why they are refused. The first of
-/// them is the name of the program. `auto` as the value of `--workers` means as many workers as there are processors that the
-/// program may use, 64 at most, and 1 if the system doesn't say how many. The gate learns how far a campaign has come, unless
-/// the words ask for quiet, or how far exploring has. It waits for the workers of a campaign, whose threads are this runtime's, as the files are.
+/// Does what the words ask for: a job over the two sinks, or to show help or the version, or to say why they are refused. The first
+/// of them is the name of the program. `auto` as the value of `--workers` means as many workers as there are processors that the
+/// program may use, 64 at most, and 1 if the system doesn't say how many. The host's gate learns how far a campaign has come,
+/// unless the words ask for quiet, or how far exploring has. It waits for the workers of a campaign, whose threads are the host's,
+/// as the files are.
 pub fn obey<T: Threads + Wait + Files + Sync, W: Sink, F: Sink, G: Gate + Watch + Sync>(
-    rt: &T,
-    alloc: Global,
+    host: &Host<'_, T, G>,
     words: &[String],
     processors: Option<NonZeroUsize>,
     writer: &mut W,
     faults: &mut F,
-    gate: &G,
 ) -> u8
     requires writes { W.has_failed writer.old ≡ false }
     requires tells { F.has_failed faults.old ≡ false }
@@ -136,8 +134,8 @@ pub fn obey<T: Threads + Wait + Files + Sync, W: Sink, F: Sink, G: Gate + Watch 
         (W.held writer.old) (W.held writer.new) (W.has_failed writer.new)
         (F.held faults.old) (F.held faults.new) (F.has_failed faults.new) result }
 {
-    match meant(alloc, processors, words) {
-        Ok(meant) => obey_meant(rt, alloc, &meant, writer, faults, gate),
+    match meant(host.alloc, processors, words) {
+        Ok(meant) => obey_meant(host, &meant, writer, faults),
         Err(AllocError) => refuse(faults, ServeFault::Memory),
     }
 }

@@ -1,13 +1,11 @@
 //! A run of a file, with its end state.
 ghost use Rattle.std.specs.Prelude.{◌≡◌, ℕ, List, [], Some, false, IfOk, MatchResult, if◌then◌else◌};
 ghost use Rattle.model.specs.Run.{IsRow, IsRun, state_after};
-ghost use Rattle.model.specs.Campaign.{is_pass};
 ghost use Rattle.model.specs.EndStates.{end_state_of};
 ghost use Rattle.campaign.specs.Faults.{IsRunFault};
 ghost use Rattle.campaign.specs.OneRun.{IsAsked};
 ghost use Rattle.campaign.specs.Serving.{IsFileOf, streams_of};
 ghost use Rattle.jobs.specs.EndStates.{ServesEndState, end_state_of_run};
-ghost use Rattle.jobs.specs.Passing.{IsServed};
 
 use byte_io::Sink;
 use campaign::{ServeFault, app_in, point_named, row_of};
@@ -92,9 +90,9 @@ fn serve_app<W: Sink>(
     Ok(run.end)
 }
 
-// Serves the run of the file of these bytes that is asked for, and its end state. Returns how it
-// ends.
-fn serve_end_state<W: Sink>(
+/// Serves the run of the file of these bytes that is asked for, and its end state. Returns how it
+/// ends.
+pub(crate) fn serve_end_state<W: Sink>(
     alloc: Global,
     bytes: &[u8],
     writer: &mut W,
@@ -106,19 +104,4 @@ fn serve_end_state<W: Sink>(
 {
     let app = app_in(alloc, bytes)?;
     serve_app(alloc, &app, writer, asked)
-}
-
-/// Serves a run, and its end state. Returns whether it passes.
-pub(crate) fn serve_end_state_at<W: Sink>(
-    alloc: Global,
-    asked: Option<NamedPoint<'_>>,
-    bytes: &[u8],
-    writer: &mut W,
-) -> Result<bool, ServeFault>
-    requires { W.has_failed writer.old ≡ false }
-    ensures { IsServed is_pass (ServesEndState asked.entry (streams_of (Some bytes.now) false
-        (W.held writer.old) (W.held writer.new) (W.has_failed writer.new))) result }
-{
-    let end = serve_end_state(alloc, bytes, writer, asked)?;
-    Ok(matches!(end, End::Pass))
 }

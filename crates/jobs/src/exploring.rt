@@ -12,6 +12,7 @@ ghost use Rattle.explorer.specs.Totals.{placements_in};
 ghost use Rattle.campaign.specs.Serving.{IsFileOf, streams_of};
 ghost use Rattle.jobs.specs.Explorations.{AreAsked, IsExploringFault, IsFoundIn, IsNamingFault, ServesExploration};
 
+use crate::host::Host;
 use byte_io::{Page, Sink, WriteFault, flush};
 use campaign::{ServeFault, app_in};
 use explorer::{Found, Watch, explore, placements_in};
@@ -170,18 +171,17 @@ fn serve_app<W: Sink, G: Watch>(
 ///
 /// It is out of line, since other jobs are to take no stack for its kernel.
 #[inline(never)]
-pub(crate) fn serve_exploration<W: Sink, G: Watch>(
-    alloc: Global,
+pub(crate) fn serve_exploration<T, W: Sink, G: Watch>(
+    host: &Host<'_, T, G>,
     most: MostInjections,
     list: Option<&str>,
     bytes: &[u8],
     writer: &mut W,
-    gate: &G,
 ) -> Result<bool, ServeFault>
     requires { W.has_failed writer.old ≡ false }
     ensures { ServesExploration most (option_map (λ list. list.now) list.entry) (streams_of (Some bytes.now) false
         (W.held writer.old) (W.held writer.new) (W.has_failed writer.new)) result }
 {
-    let app = app_in(alloc, bytes)?;
-    serve_app(alloc, &app, writer, most, list, gate)
+    let app = app_in(host.alloc, bytes)?;
+    serve_app(host.alloc, &app, writer, most, list, host.gate)
 }

@@ -1,21 +1,20 @@
 //! A job of the program, over a source and two sinks.
-ghost use Rattle.std.specs.Prelude.{◌≡◌, ◌≢◌, ◌≤◌, ◌⊎◌, Bool, true, false, [], length, Some, Result, Err, IfOk, MatchResult};
+ghost use Rattle.std.specs.Prelude.{◌≡◌, ◌≢◌, ◌≤◌, ◌⊎◌, Bool, true, false, [], length, Some, Result, Err, IfErr, IfOk, MatchResult};
 ghost use Rattle.std.specs.IoError.{error_kind};
 ghost use Rattle.campaign.specs.declared.file.ServeFault.{ServeFault};
 ghost use Rattle.jobs.specs.declared.run_job.JobFault.{JobFault};
 ghost use Rattle.jobs.specs.declared.run_job.JobFault.TheVariants as job_fault;
 ghost use Rattle.requests.specs.Jobs.{is_unpaired};
-ghost use Rattle.model.specs.Campaign.{is_pass};
 ghost use Rattle.campaign.specs.Campaigns.{ServesCampaign};
-ghost use Rattle.campaign.specs.OneRun.{ServesRun};
 ghost use Rattle.campaign.specs.Serving.{streams_of};
 ghost use Rattle.jobs.specs.Passing.{IsServed};
-ghost use Rattle.jobs.specs.Acting.{Does, DoesOverFile, OpensAndDoes, ReadsFor, FailsToRead, Tells};
+ghost use Rattle.jobs.specs.Acting.{Does, DoesAsRead, DoesOverFile, OpensAndDoes, ReadsFor, FailsToRead, ServesRunAt, Tells};
 ghost use Rattle.jobs.specs.Acting.{all_pass, fault_line, most_bytes, name_told, told, status_of};
 
-use crate::end_state::serve_end_state_at;
+use crate::end_state::serve_end_state;
 use crate::exploring::serve_exploration;
 use crate::fault_line::tell;
+use crate::host::Host;
 use byte_io::{FromReader, ReadFault, Sink, Source, read_all, read_at_most};
 use campaign::{Gate, NoGate, ServeFault, serve_of, serve_run_of};
 use explorer::Watch;
@@ -109,53 +108,51 @@ pub fn conclude<F: Sink>(job: &Job<'_>, faults: &mut F, outcome: Result<bool, Jo
     status_of(outcome)
 }
 
-// Serves a run. Returns whether it passes.
+// Serves a run, and its end state if that is asked for. Returns whether the run passes.
 fn serve_run_at<W: Sink>(
     alloc: Global,
     point: Option<NamedPoint<'_>>,
+    state: bool,
     bytes: &[u8],
     writer: &mut W,
 ) -> Result<bool, ServeFault>
     requires { W.has_failed writer.old ≡ false }
-    ensures { IsServed is_pass (ServesRun point.entry (streams_of (Some bytes.now) false
-        (W.held writer.old) (W.held writer.new) (W.has_failed writer.new))) result }
+    ensures { ServesRunAt point.entry state (streams_of (Some bytes.now) false
+        (W.held writer.old) (W.held writer.new) (W.has_failed writer.new)) result }
 {
-    let end = serve_run_of(alloc, bytes, writer, point)?;
+    let end = if state {
+        serve_end_state(alloc, bytes, writer, point)?
+    } else {
+        serve_run_of(alloc, bytes, writer, point)?
+    };
     Ok(matches!(end, End::Pass))
 }
 
 // Serves a part of a campaign. Returns whether all its rows pass.
 fn serve_campaign<T: Threads + Wait + Sync, W: Sink, G: Gate + Sync>(
-    rt: &T,
-    alloc: Global,
+    host: &Host<'_, T, G>,
     view: View,
     shard: Shard,
     options: Options,
-    quiet: bool,
     bytes: &[u8],
     writer: &mut W,
-    gate: &G,
 ) -> Result<bool, ServeFault>
     requires { W.has_failed writer.old ≡ false }
     ensures { IsServed all_pass (ServesCampaign view shard (streams_of (Some bytes.now) false
         (W.held writer.old) (W.held writer.new) (W.has_failed writer.new))) result }
 {
-    let totals = if quiet {
-        serve_of(rt, alloc, bytes, writer, view, shard, options, &NoGate)?
-    } else {
-        serve_of(rt, alloc, bytes, writer, view, shard, options, gate)?
-    };
+    let totals = serve_of(
+        host.rt, host.alloc, bytes, writer, view, shard, options, host.gate,
+    )?;
     Ok(totals.pass == totals.rows)
 }
 
 // Writes to `writer` what the job asks for of the file of these bytes.
 fn serve_job<T: Threads + Wait + Sync, W: Sink, G: Gate + Watch + Sync>(
-    rt: &T,
-    alloc: Global,
+    host: &Host<'_, T, G>,
     job: &Job<'_>,
     bytes: &[u8],
     writer: &mut W,
-    gate: &G,
 ) -> Result<bool, JobFault>
     requires { W.has_failed writer.old ≡ false }
     ensures { Does job.now (streams_of (Some bytes.now) false
@@ -163,62 +160,69 @@ fn serve_job<T: Threads + Wait + Sync, W: Sink, G: Gate + Watch + Sync>(
 {
     let served = match job {
         Job::RunUnpaired { .. } => return Err(JobFault::Unpaired),
-        Job::Run {
-            point,
-            state: false,
-            ..
-        } => serve_run_at(alloc, *point, bytes, writer),
-        Job::Run {
-            point,
-            state: true,
-            ..
-        } => serve_end_state_at(alloc, *point, bytes, writer),
+        Job::Run { point, state, .. } => serve_run_at(host.alloc, *point, *state, bytes, writer),
         Job::Campaign {
             view,
             shard,
             options,
-            quiet,
+            quiet: false,
             ..
-        } => serve_campaign(
-            rt, alloc, *view, *shard, *options, *quiet, bytes, writer, gate,
-        ),
+        } => serve_campaign(host, *view, *shard, *options, bytes, writer),
+        Job::Campaign {
+            view,
+            shard,
+            options,
+            quiet: true,
+            ..
+        } => {
+            let quiet = Host {
+                rt: host.rt,
+                alloc: host.alloc,
+                gate: &NoGate,
+            };
+            serve_campaign(&quiet, *view, *shard, *options, bytes, writer)
+        }
         Job::Explore {
             injections,
             handlers,
             ..
-        } => serve_exploration(alloc, *injections, *handlers, bytes, writer, gate),
+        } => serve_exploration(host, *injections, *handlers, bytes, writer),
     };
     Ok(served?)
 }
 
-// Does the job over the file of these bytes, and ends it.
+// Does the job over what was read of its file, if that was read, and ends it.
 fn act_on<T: Threads + Wait + Sync, W: Sink, F: Sink, G: Gate + Watch + Sync>(
-    rt: &T,
-    alloc: Global,
+    host: &Host<'_, T, G>,
     job: &Job<'_>,
-    bytes: &[u8],
+    read: Result<Vec<u8>, JobFault>,
     writer: &mut W,
     faults: &mut F,
-    gate: &G,
 ) -> u8
     requires writes { W.has_failed writer.old ≡ false }
     requires tells { F.has_failed faults.old ≡ false }
     ensures { (outcome : Result Bool JobFault)
-        × Does job.now (streams_of (Some bytes.now) false
-        (W.held writer.old) (W.held writer.new) (W.has_failed writer.new)) outcome
+        × DoesAsRead job.now read
+        (W.held writer.old) (W.held writer.new) (W.has_failed writer.new) outcome
         × Tells (F.held faults.old) (F.held faults.new) (F.has_failed faults.new) (told job.now outcome)
         × (result ≡ status_of outcome) }
 {
-    let outcome = serve_job(rt, alloc, job, bytes, writer, gate);
-    conclude(job, faults, outcome)
+    match read {
+        Ok(bytes) => {
+            let outcome = serve_job(host, job, bytes.as_slice(), writer);
+            conclude(job, faults, outcome)
+        }
+        Err(fault) => conclude(job, faults, Err(fault)),
+    }
 }
 
 // All bytes of the job's file. None are read if its step and its handler don't go together.
-fn all_for<R: Source>(alloc: Global, job: &Job<'_>, reader: &mut R) -> Result<Vec<u8>, ServeFault>
+fn all_for<R: Source>(alloc: Global, job: &Job<'_>, reader: &mut R) -> Result<Vec<u8>, JobFault>
     requires { R.has_failed reader.old ≡ false }
     ensures read { MatchResult result
         (λ bytes. ReadsFor job.now (R.left reader.old) (R.has_failed reader.new) bytes.items)
-        (λ fault. FailsToRead job.now (R.left reader.old) (R.has_failed reader.new) (job_fault.Serve fault)) }
+        (FailsToRead job.now (R.left reader.old) (R.has_failed reader.new)) }
+    ensures any_size { IfErr result (λ fault. fault ≢ job_fault.TooLarge) }
     ensures unread { is_unpaired job.now ≡ true → R.left reader.new ≡ R.left reader.old }
 {
     if job.is_unpaired() {
@@ -226,8 +230,8 @@ fn all_for<R: Source>(alloc: Global, job: &Job<'_>, reader: &mut R) -> Result<Ve
     }
     match read_all(alloc, reader) {
         Ok(bytes) => Ok(bytes),
-        Err(ReadFault::Failed) => Err(ServeFault::Read),
-        Err(ReadFault::Memory) => Err(ServeFault::Memory),
+        Err(ReadFault::Failed) => Err(JobFault::Serve(ServeFault::Read)),
+        Err(ReadFault::Memory) => Err(JobFault::Serve(ServeFault::Memory)),
     }
 }
 
@@ -236,7 +240,8 @@ fn all_for<R: Source>(alloc: Global, job: &Job<'_>, reader: &mut R) -> Result<Ve
 /// `faults`; that this fails changes nothing.
 ///
 /// If the job's step and its handler don't go together, nothing is read. The gate learns how far a campaign has come, unless it is
-/// quiet, or how far exploring has; no clause speaks of that. It waits for the workers of a campaign, whose threads are this runtime's.
+/// quiet, or how far exploring has; no clause speaks of that. It waits for the workers of a campaign, whose threads are this
+/// runtime's.
 pub fn act<T: Threads + Wait + Sync, R: Source, W: Sink, F: Sink, G: Gate + Watch + Sync>(
     rt: &T,
     alloc: Global,
@@ -256,10 +261,8 @@ pub fn act<T: Threads + Wait + Sync, R: Source, W: Sink, F: Sink, G: Gate + Watc
         × (result ≡ status_of outcome) }
     ensures unread { is_unpaired job.now ≡ true → R.left reader.new ≡ R.left reader.old }
 {
-    match all_for(alloc, job, reader) {
-        Ok(bytes) => act_on(rt, alloc, job, bytes.as_slice(), writer, faults, gate),
-        Err(fault) => conclude(job, faults, Err(JobFault::Serve(fault))),
-    }
+    let read = all_for(alloc, job, reader);
+    act_on(&Host { rt, alloc, gate }, job, read, writer, faults)
 }
 
 // 64 MiB (profile).
@@ -287,13 +290,11 @@ fn bytes_for<R: Source>(alloc: Global, job: &Job<'_>, reader: &mut R) -> Result<
 
 // Does the job over its file, which `reader` gives. Nothing is read if its step and its handler don't go together.
 fn act_over_file<T: Threads + Wait + Sync, R: Source, W: Sink, F: Sink, G: Gate + Watch + Sync>(
-    rt: &T,
-    alloc: Global,
+    host: &Host<'_, T, G>,
     job: &Job<'_>,
     reader: &mut R,
     writer: &mut W,
     faults: &mut F,
-    gate: &G,
 ) -> u8
     requires reads { R.has_failed reader.old ≡ false }
     requires writes { W.has_failed writer.old ≡ false }
@@ -305,10 +306,8 @@ fn act_over_file<T: Threads + Wait + Sync, R: Source, W: Sink, F: Sink, G: Gate 
         × (result ≡ status_of outcome) }
     ensures unread { is_unpaired job.now ≡ true → R.left reader.new ≡ R.left reader.old }
 {
-    match bytes_for(alloc, job, reader) {
-        Ok(bytes) => act_on(rt, alloc, job, bytes.as_slice(), writer, faults, gate),
-        Err(fault) => conclude(job, faults, Err(fault)),
-    }
+    let read = bytes_for(host.alloc, job, reader);
+    act_on(host, job, read, writer, faults)
 }
 
 // The fault of a file that could not be opened.
@@ -324,17 +323,15 @@ fn fault_of(error: &io::Error) -> ServeFault
     }
 }
 
-/// Opens the file of the job, and does the job over it and the two sinks. At most 64 MiB of it are read (profile): of a larger file, or
-/// of a device that has no end, this is the fault. A file that can't be opened is one that can't be
-/// read, even if the job's step and handler don't go together. The contract says of the file's bytes that there are such;
-/// that they are those of the file, the tests show.
+/// Opens the file of the job, and does the job over it and the two sinks. At most 64 MiB of it are read (profile): of a larger
+/// file, or of a device that has no end, this is the fault. A file that can't be opened is one that can't be read, even if the
+/// job's step and handler don't go together. The contract says of the file's bytes that there are such; that they are those of the
+/// file, the tests show.
 pub fn open_and_act<T: Threads + Wait + Files + Sync, W: Sink, F: Sink, G: Gate + Watch + Sync>(
-    rt: &T,
-    alloc: Global,
+    host: &Host<'_, T, G>,
     job: &Job<'_>,
     writer: &mut W,
     faults: &mut F,
-    gate: &G,
 ) -> u8
     requires writes { W.has_failed writer.old ≡ false }
     requires tells { F.has_failed faults.old ≡ false }
@@ -343,10 +340,10 @@ pub fn open_and_act<T: Threads + Wait + Files + Sync, W: Sink, F: Sink, G: Gate 
         × Tells (F.held faults.old) (F.held faults.new) (F.has_failed faults.new) (told job.now outcome)
         × (result ≡ status_of outcome) }
 {
-    match File::open(rt, job.file()) {
+    match File::open(host.rt, job.file()) {
         Ok(file) => {
             let mut reader = FromReader::new(file);
-            act_over_file(rt, alloc, job, &mut reader, writer, faults, gate)
+            act_over_file(host, job, &mut reader, writer, faults)
         }
         Err(error) => conclude(job, faults, Err(JobFault::Serve(fault_of(&error)))),
     }

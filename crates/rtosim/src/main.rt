@@ -7,7 +7,7 @@ mod counter;
 use crate::counter::Counter;
 use byte_io::{Messages, Output, ToWriter};
 use campaign::ServeFault;
-use jobs::{obey, refuse};
+use jobs::{Host, obey, refuse};
 use std::cell::Cell;
 use std::io;
 use std::num::NonZeroUsize;
@@ -89,14 +89,17 @@ fn main(rt: HostRuntime) -> ExitCode {
         return ExitCode::from(4);
     }
     let reader_left = Cell::new(false);
+    let host = Host {
+        rt: &rt,
+        alloc: rt.alloc(),
+        gate: &Counter::new(&rt),
+    };
     let status = obey(
-        &rt,
-        rt.alloc(),
+        &host,
         arguments.as_slice(),
         processors(&rt, arguments.as_slice()),
         &mut Output::new(rt.stdout(), &reader_left),
         &mut Messages::new(rt.stderr(), &reader_left),
-        &Counter::new(&rt),
     );
     if reader_left.get() {
         return ExitCode::from(READER_LEFT);

@@ -1,4 +1,4 @@
-use Rattle.std.proofs.Common.{◌≡◌, ◌∙◌, ◌∷◌, ◌++◌, [], ℕ, List, Option, Some, None, ap, arith, map, rules, sym, Err}
+use Rattle.std.proofs.Common.{◌≡◌, ◌∙◌, ◌++◌, [], ℕ, List, Some, None, ap, arith, map, rules, sym, Err}
 use Rattle.model.specs.Words.{source_named}
 use Rattle.requests.specs.Names.{names_of}
 use Rattle.requests.proofs.Splitting.{cut_parts}

@@ -1,4 +1,4 @@
-use Rattle.std.proofs.Common.{◌≡◌, ◌∙◌, List, Some, false, ap, option_map, sym, subst, refl, rules, Err}
+use Rattle.std.proofs.Common.{◌≡◌, ◌∙◌, List, Some, false, ap, option_map, refl, rules, Err}
 use Rattle.std.specs.List.{list_all}
 use Rattle.model.specs.Campaign.{is_pass}
 use Rattle.model.specs.Placements.{Found}
@@ -6,7 +6,6 @@ use Rattle.report.specs.Found.{exploration_text}
 use Rattle.explorer.specs.Totals.{placements_in}
 use Rattle.campaign.specs.declared.file.ServeFault.TheVariants.{Write}
 use Rattle.campaign.proofs.Faulty.{serves_front}
-use Rattle.jobs.specs.Explorations.{IsExplorationOf}
 use Rattle.jobs.proofs.Explorations.{exploration_fault, report_of}
 use Rattle.jobs.proofs.exploring.serve_app.Goals as goal
 

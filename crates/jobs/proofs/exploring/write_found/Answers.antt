@@ -1,4 +1,4 @@
-use Rattle.std.proofs.Common.{◌≡◌, [], rules}
+use Rattle.std.proofs.Common.{[]}
 use Rattle.std.specs.List.{flat_map}
 use Rattle.explorer.specs.Totals.{placements_in}
 use Rattle.byte_io.proofs.Sending.{SentFront_two, Sent_two, Writes_then}

@@ -1,21 +1,12 @@
-use Rattle.std.proofs.Common.{◌≡◌, rules, Err}
-use Rattle.jobs.proofs.Serving.{does_over_file, fails_over_file}
+use Rattle.jobs.proofs.Serving.{acts_over_file}
 use Rattle.jobs.proofs.run_job.act_over_file.Goals as goal
 
-pub returns-in-Ok-clause-does : goal.returns-in-Ok-clause-does
-returns-in-Ok-clause-does g c =
-    let done = c.act_on.ensures in
-    let same : c.as_slice.result.now ≡ c.in-Ok.bytes.items = search rules in (
+pub returns-clause-does : goal.returns-clause-does
+returns-clause-does g c =
+    let done = c.act_on.ensures in (
       done.0,
-      does_over_file c.args.job.now _ _ _ _ _ _ done.0 c.in-Ok.ensures.read c.in-Ok.ensures.few (rw same at done.1),
+      acts_over_file c.args.job.now c.bytes_for-read.result _ _ _ _ _ done.0 c.bytes_for-read.ensures.read
+          c.bytes_for-read.ensures.few done.1,
       done.2,
       done.3,
     )
-
-pub returns-in-Err-clause-does : goal.returns-in-Err-clause-does
-returns-in-Err-clause-does g c = (
-  Err c.in-Err.fault,
-  fails_over_file c.args.job.now _ _ _ _ c.in-Err.fault c.in-Err.ensures.read c.requires.writes,
-  c.conclude.ensures.told,
-  c.conclude.ensures.status,
-)

@@ -1,0 +1,14 @@
+//! What jobs are done with.
+use std::alloc::Global;
+
+/// What a job is done with: the runtime whose threads and files it uses, its memory, and the gate
+/// that learns how far it has come.
+#[derive(Drop)]
+pub struct Host<'a, T, G> {
+    /// The runtime.
+    pub rt: &'a T,
+    /// The memory.
+    pub alloc: Global,
+    /// The gate.
+    pub gate: &'a G,
+}
