@@ -1,13 +1,13 @@
 //! From the kernels before a step to those after it.
 ghost use Rattle.std.specs.Prelude.{◌≡◌, ◌<◌, ◌≤◌, ◌+◌, ◌*◌, ◌^◌, [], ◌∷◌, OnOk, length};
-ghost use Rattle.std.specs.List.{AllByRecursion, flat_map};
+ghost use Rattle.std.specs.List.{AllByRecursion};
 ghost use Rattle.explorer.specs.Frontiers.{number_in};
 ghost use Rattle.explorer.specs.Layers.{HasWay};
 ghost use Rattle.explorer.specs.Questions.{AreChoices, AreGoingOn, AreKept, AreWithin, GoOnBy, HasGoneOn, IsAtEnd, IsIn};
 ghost use Rattle.explorer.specs.Questions.{IsPassed, IsPassedSpent, IsStepped, app_in, batch_of, levels_in, limits_in, nows_in};
 
 use crate::batch::Batch;
-use crate::choices::{Choice, Level};
+use crate::choices::Choice;
 use crate::findings::{Found, count_end};
 use crate::frontier::Frontier;
 use crate::layer::{Layer, Node};
@@ -120,29 +120,6 @@ fn step_by_each(
     Ok(())
 }
 
-// From the stepper's base the plans of a batch go on with each choice of these levels.
-fn step_by_levels(
-    block: &StepBlock<'_, '_>,
-    batch: &Batch,
-    levels: &[Level],
-    stepper: &mut Stepper,
-    frontier: &mut Frontier,
-) -> Result<(), Memory>
-    requires going { AreGoingOn block.now stepper.old.base batch.now }
-    requires few { AllByRecursion (λ level. AllByRecursion (λ now. length batch.now.least + length now ≤ 3) level) levels.now }
-    requires room { number_in frontier.old + length (flat_map (λ level. level) levels.now) * batch.now.count < 2 ^ 128 }
-    ensures base { stepper.new.base ≡ stepper.old.base }
-    ensures takes { OnOk result (GoOnBy block.now stepper.old.base batch.now
-        (flat_map (λ level. level) levels.now) frontier.old frontier.new) }
-    ensures count { OnOk result (number_in frontier.new
-        ≤ number_in frontier.old + length (flat_map (λ level. level) levels.now) * batch.now.count) }
-{
-    for level in levels {
-        step_by_each(block, batch, level.as_slice(), stepper, frontier)?;
-    }
-    Ok(())
-}
-
 // From the stepper's base the plans of a batch go on with each choice of as many handlers as they
 // have left. That no handler comes is the last, since that needs no copy of the kernel.
 fn go_on(
@@ -162,7 +139,9 @@ fn go_on(
     let left = choices.levels.len() - batch.least.len();
     let (up_to_most, _) = choices.levels.as_slice().split_at(left);
     let (_, some) = up_to_most.split_at(1);
-    step_by_levels(block, batch, some, stepper, frontier)?;
+    for level in some {
+        step_by_each(block, batch, level.as_slice(), stepper, frontier)?;
+    }
     step_by(
         block,
         batch,

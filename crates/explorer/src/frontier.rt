@@ -12,8 +12,8 @@ const SHORTEST: u32 = 8;
 /// The most steps of a block.
 const LONGEST: u32 = 1024;
 
-/// How far the runs have come: those with injections left to kernels before a step, the others to kernels at the end of a block of steps.
-/// What has ended is found.
+/// How far the runs have come: those with injections left to kernels before a step, the others to kernels at the end of a block of
+/// steps. What has ended is found.
 #[derive(Drop)]
 pub(crate) struct Frontier {
     pub(crate) live: Layer,

@@ -83,8 +83,8 @@ impl Placement {
         Placement { injections: all }
     }
 
-    /// Whether it is less than the other: it has fewer injections, or as many, and of the first two that differ its own comes before an
-    /// earlier step, or is of a handler that is earlier in the file.
+    /// Whether it is less than the other: it has fewer injections, or as many, and of the first two that differ its own comes
+    /// before an earlier step, or is of a handler that is earlier in the file.
     pub fn is_less(&self, other: &Placement) -> bool
         ensures { result ≡ definitions.is_less self.now other.now }
     {
