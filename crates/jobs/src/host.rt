@@ -1,4 +1,5 @@
 //! What jobs are done with.
+use campaign::NoGate;
 use std::alloc::Global;
 
 /// What a job is done with: the runtime whose threads and files it uses, its memory, and the gate
@@ -11,4 +12,15 @@ pub struct Host<'a, T, G> {
     pub alloc: Global,
     /// The gate.
     pub gate: &'a G,
+}
+
+impl<'a, T, G> Host<'a, T, G> {
+    /// The same, but nobody learns how far a job has come.
+    pub(crate) fn quiet(&self) -> Host<'a, T, NoGate> {
+        Host {
+            rt: self.rt,
+            alloc: self.alloc,
+            gate: &NoGate,
+        }
+    }
 }

@@ -16,7 +16,7 @@ use crate::exploring::serve_exploration;
 use crate::fault_line::tell;
 use crate::host::Host;
 use byte_io::{FromReader, ReadFault, Sink, Source, read_all, read_at_most};
-use campaign::{Gate, NoGate, ServeFault, serve_of, serve_run_of};
+use campaign::{Gate, ServeFault, serve_of, serve_run_of};
 use explorer::Watch;
 use model::End;
 use report::{Shard, View};
@@ -174,14 +174,7 @@ fn serve_job<T: Threads + Wait + Sync, W: Sink, G: Gate + Watch + Sync>(
             options,
             quiet: true,
             ..
-        } => {
-            let quiet = Host {
-                rt: host.rt,
-                alloc: host.alloc,
-                gate: &NoGate,
-            };
-            serve_campaign(&quiet, *view, *shard, *options, bytes, writer)
-        }
+        } => serve_campaign(&host.quiet(), *view, *shard, *options, bytes, writer),
         Job::Explore {
             injections,
             handlers,
