@@ -1,5 +1,5 @@
 -- What is known of a runner, and of the worker that has it, on the way through the rows of a setup.
-use Rattle.std.specs.Prelude.{List, Option}
+use Rattle.std.specs.Prelude.{ℕ, List, Option}
 use Rattle.std.specs.List.{AllByRecursion}
 use Rattle.machine.specs.Logged.{all_of}
 use Rattle.machine.specs.Can.{IsUnderWay}
@@ -38,36 +38,38 @@ RunsRow setup point old new kept = GainsRow setup.app.now setup.shelf.now.limits
 
 -- its kernel has come along the row of this point
 abbrev pub IsOnWay : Setup → (point : List Injection) → Runner → Type 0
-IsOnWay setup point runner = IsUnderWay setup.app.now point setup.shelf.now.limits runner.kernel
+IsOnWay setup point runner = IsUnderWay setup.app.now point setup.shelf.now.limits runner.simulation.kernel
 
 -- its kernel has come along the row of these injections, and past the last of them
 abbrev pub IsPastAll : Setup → (injections : List Injection) → Runner → Type 0
-IsPastAll setup injections runner = IsPast setup.app.now setup.shelf.now.limits runner.kernel injections
+IsPastAll setup injections runner = IsPast setup.app.now setup.shelf.now.limits runner.simulation.kernel injections
 
 -- how the row of these injections ends at the step of its kernel, if it does
 abbrev pub end_at : Setup → (injections : List Injection) → Runner → Option End
 end_at setup injections runner = end_of setup.app.now setup.shelf.now.limits
-    (state_after setup.app.now setup.shelf.now.limits injections runner.kernel.steps)
+    (state_after setup.app.now setup.shelf.now.limits injections runner.simulation.kernel.steps)
 
 -- Each run that has reached one of the kernels that it noted reaches the present one.
 abbrev pub HasPassed : Setup → Runner → Type 0
-HasPassed setup runner = AreBehind setup.app.now setup.shelf.now.limits (all_of runner.trail) runner.kernel runner.passed.items
+HasPassed setup runner = AreBehind setup.app.now setup.shelf.now.limits
+    (all_of runner.simulation.trail) runner.simulation.kernel runner.passed.items
 
 -- Each run that reaches the old kernel reaches the new one, and reports what the trail gained.
 abbrev pub IsLedOn : Setup → (old new : Runner) → Type 0
-IsLedOn setup old new = IsLed setup.app.now setup.shelf.now.limits old.kernel new.kernel (all_of old.trail) (all_of new.trail)
+IsLedOn setup old new = IsLed setup.app.now setup.shelf.now.limits old.simulation.kernel new.simulation.kernel
+    (all_of old.simulation.trail) (all_of new.simulation.trail)
 
 -- If the old marks are right, each row that reaches the new kernel goes on in this way.
 abbrev pub IsAheadOf : Setup → (old new : Runner) → Ahead → Type 0
 IsAheadOf setup old new rest =
-    IsAhead setup.app.now setup.shelf.now.limits setup.shelf.now.base old.table.marks.items new.kernel rest
+    IsAhead setup.app.now setup.shelf.now.limits setup.shelf.now.base old.table.marks.items new.simulation.kernel rest
 
 -- ---- the rest of a row
 
 -- The row of this point, which had reached the old kernel, goes on by what the trail gained, and then in this way.
 abbrev pub IsRestOfRow : Setup → (point : List Injection) → (old new : Runner) → Ahead → Type 0
 IsRestOfRow setup point old new rest = IsRestOf setup.app.now setup.shelf.now.limits setup.view.now
-    setup.shelf.now.base (store_in old) (store_in new) point old.kernel rest
+    setup.shelf.now.base (store_in old) (store_in new) point old.simulation.kernel rest
 
 -- Each row that reaches one of the kernels that it noted goes on by the trail from there on, and then in this way.
 abbrev pub ArePassed : Setup → Runner → Ahead → Type 0

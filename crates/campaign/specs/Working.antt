@@ -83,7 +83,7 @@ pub record KeepsRow (app : Application) (limits : Limits) (view : View)
 
 -- what is kept of a runner's rows
 abbrev pub store_in : Runner → Store
-store_in runner = record { trail = all_of runner.trail; legs = runner.legs.items }
+store_in runner = record { trail = all_of runner.simulation.trail; legs = runner.legs.items }
 
 -- These events follow the link, if the view shows those of a row that ends in this way.
 abbrev pub IsTold : View → (base : List Event) → Store → Link → End → List Event → Type 0

@@ -24,8 +24,8 @@ const PROBES: usize = 8;
 // The number in a place that has no mark.
 const NO_MARK: u32 = u32::MAX;
 
-/// Marks, and a table of guesses at which of them may be looked for, by the kernel's hint. Any mark may be left out, and any guess be
-/// wrong: then a row is run further, to the same end.
+/// Marks, and a table of guesses at which of them may be looked for, by the kernel's hint. Any mark may be left out,
+/// and any guess be wrong: then a row is run further, to the same end.
 #[derive(Drop)]
 pub(crate) struct MarkTable {
     pub(crate) marks: Vec<Mark>,

@@ -33,8 +33,8 @@ fn point_of(injections: &[Injection]) -> Point
     }
 }
 
-/// The point of the interrupts that have these names. At `UnknownHandler` no handler has the name in this place, nor is it the tick's;
-/// it is the first such.
+/// The point of the interrupts that have these names. At `UnknownHandler` no handler has the name in this place, nor
+/// is it the tick's; it is the first such.
 pub fn point_named(app: &App, named: &NamedPoint<'_>) -> Result<Point, ServeFault>
     ensures { MatchResult result (λ point. map (injection_named app.now) (pairs_in named.now.injections) ≡ map Some point)
         (λ given. (place : ℕ) × (given ≡ fault.UnknownHandler place)

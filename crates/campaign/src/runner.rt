@@ -17,22 +17,19 @@ use crate::mark_table::MarkTable;
 use crate::meetings::Meetings;
 use crate::setup::Setup;
 use crate::spacing::Spacing;
-use kernel::{Kernel, RestEnding, Snapshot, StepLog, Trail, go_far};
+use kernel::{Kernel, RestEnding, Snapshot, Trail, go_far};
 use model::{App, End, Injection, Limits, Memory, Meter, Point, Run};
 use report::View;
 use rows::{KeptRow, Leg, Link};
-use shelf::Walk;
+use shelf::{Simulation, Walk};
 use std::alloc::Global;
 
-/// What a worker runs its rows with: a kernel, the log of a step, the trail and the legs of all of
-/// them, the marks at kernels that they reached, and the kernels that the row on its way has
-/// reached.
+/// What a worker runs its rows with: the simulation, with the trail of all of them, their legs, the
+/// marks at kernels that they reached, and the kernels that the row on its way has reached.
 #[derive(Drop)]
 pub(crate) struct Runner {
     alloc: Global,
-    kernel: Kernel,
-    log: StepLog,
-    pub(crate) trail: Trail,
+    pub(crate) simulation: Simulation,
     pub(crate) legs: Vec<Leg>,
     pub(crate) table: MarkTable,
     passed: Vec<Passed>,
@@ -108,9 +105,7 @@ impl Runner {
     {
         Runner {
             alloc,
-            kernel: Kernel::boot(app),
-            log: StepLog::new(),
-            trail: Trail::new(alloc),
+            simulation: Simulation::new(alloc, app),
             legs: Vec::new(alloc),
             table: MarkTable::new(alloc, spacing.closest()),
             passed: Vec::new(alloc),
@@ -122,9 +117,9 @@ impl Runner {
 
     /// The events of all rows, and their legs.
     pub(crate) fn into_told(self) -> (Trail, Vec<Leg>)
-        ensures { result ≡ (self.trail, self.legs) }
+        ensures { result ≡ (self.simulation.trail, self.legs) }
     {
-        (self.trail, self.legs)
+        (self.simulation.trail, self.legs)
     }
 
     // The rest of a row that has reached its end: nothing more.
@@ -137,8 +132,8 @@ impl Runner {
         limits.well_formed();
         Ahead {
             told: end_of_base(setup.shelf.base()),
-            steps: self.kernel.steps(),
-            ticks: self.kernel.ticks(),
+            steps: self.simulation.kernel.steps(),
+            ticks: self.simulation.kernel.ticks(),
             end,
         }
     }
@@ -149,8 +144,8 @@ impl Runner {
         requires setup { IsSetup setup.now }
         ensures { IfSome result (IsAheadOf setup.now self.now self.now) }
     {
-        let Some(before) = setup.shelf.known(&self.kernel, hint) else {
-            return self.table.find(&self.kernel, hint);
+        let Some(before) = setup.shelf.known(&self.simulation.kernel, hint) else {
+            return self.table.find(&self.simulation.kernel, hint);
         };
         let base = setup.shelf.base();
         Some(Ahead {
@@ -164,35 +159,32 @@ impl Runner {
     // Notes the kernel that the row has reached on its way, if it may leave another mark and there is
     // memory for it.
     fn note(&mut self, hint: u64)
-        ensures kernel { self.new.kernel ≡ self.old.kernel }
-        ensures trail { self.new.trail ≡ self.old.trail }
+        ensures kernel { self.new.simulation.kernel ≡ self.old.simulation.kernel }
+        ensures trail { self.new.simulation.trail ≡ self.old.simulation.trail }
+        ensures meter { self.new.simulation.meter ≡ self.old.simulation.meter }
         ensures legs { self.new.legs ≡ self.old.legs }
         ensures table { self.new.table ≡ self.old.table }
-        ensures passed { IsNoted (all_of self.old.trail) self.old.kernel self.old.passed.items self.new.passed.items }
+        ensures passed { IsNoted (all_of self.old.simulation.trail) self.old.simulation.kernel
+            self.old.passed.items self.new.passed.items }
     {
         if self.passed.len() >= self.spacing.most_marks() {
             return;
         }
-        let Some(kernel) = snapshot_of(self.alloc, &self.kernel, &mut self.spent) else {
+        let Some(kernel) = snapshot_of(self.alloc, &self.simulation.kernel, &mut self.spent) else {
             return;
         };
-        let from = self.trail.len();
+        let from = self.simulation.trail.len();
         if self.passed.push(Passed { kernel, hint, from }).is_err() {
             return;
         }
     }
 
     // Runs a row to its end. Its last injection comes before the step that it has reached.
-    fn run_out(
-        &mut self,
-        setup: &Setup<'_>,
-        injections: &[Injection],
-        meter: &mut Meter,
-    ) -> Result<Ahead, Memory>
+    fn run_out(&mut self, setup: &Setup<'_>, injections: &[Injection]) -> Result<Ahead, Memory>
         requires setup { IsSetup setup.now }
         requires past { IsPastAll setup.now injections.now self.old }
         requires passed { HasPassed setup.now self.old }
-        requires meter { meter.old < 2 ^ 62 + self.old.kernel.steps }
+        requires meter { self.old.simulation.meter < 2 ^ 62 + self.old.simulation.kernel.steps }
         ensures legs { self.new.legs ≡ self.old.legs }
         ensures table { self.new.table ≡ self.old.table }
         ensures led { OnOk result (IsLedOn setup.now self.old self.new) }
@@ -202,14 +194,14 @@ impl Runner {
         let limits = setup.shelf.limits();
         limits.well_formed();
         let ending = go_far(
-            &mut self.kernel,
+            &mut self.simulation.kernel,
             setup.app,
             injections,
             u32::MAX,
             &limits,
-            meter,
-            &mut self.log,
-            &mut self.trail,
+            &mut self.simulation.meter,
+            &mut self.simulation.log,
+            &mut self.simulation.trail,
         )?;
         match ending {
             Some(ending) => Ok(ahead_of(ending, setup.shelf.base())),
@@ -226,13 +218,12 @@ impl Runner {
         setup: &Setup<'_>,
         injections: &[Injection],
         last: u32,
-        meter: &mut Meter,
     ) -> Result<Ahead, Memory>
         requires setup { IsSetup setup.now }
         requires past { IsPastAll setup.now injections.now self.old }
         requires goes { end_at setup.now injections.now self.old ≡ None }
         requires passed { HasPassed setup.now self.old }
-        requires meter { meter.old < 2 ^ 62 + self.old.kernel.steps }
+        requires meter { self.old.simulation.meter < 2 ^ 62 + self.old.simulation.kernel.steps }
         ensures legs { self.new.legs ≡ self.old.legs }
         ensures table { self.new.table ≡ self.old.table }
         ensures led { OnOk result (IsLedOn setup.now self.old self.new) }
@@ -242,22 +233,22 @@ impl Runner {
         let limits = setup.shelf.limits();
         limits.well_formed();
         'marks: loop {
-            let until = next_mark(self.spacing.steps(), last, self.kernel.steps());
+            let until = next_mark(self.spacing.steps(), last, self.simulation.kernel.steps());
             let ending = go_far(
-                &mut self.kernel,
+                &mut self.simulation.kernel,
                 setup.app,
                 injections,
                 until,
                 &limits,
-                meter,
-                &mut self.log,
-                &mut self.trail,
+                &mut self.simulation.meter,
+                &mut self.simulation.log,
+                &mut self.simulation.trail,
             )?;
             if let Some(ending) = ending {
                 self.meetings.count(false);
                 return Ok(ahead_of(ending, setup.shelf.base()));
             }
-            let hint = self.kernel.hint(setup.app);
+            let hint = self.simulation.kernel.hint(setup.app);
             if let Some(rest) = self.known_rest(setup, hint) {
                 self.meetings.count(true);
                 return Ok(rest);
@@ -273,47 +264,40 @@ impl Runner {
         setup: &Setup<'_>,
         injections: &[Injection],
         last: u32,
-        meter: &mut Meter,
     ) -> Result<Ahead, Memory>
         requires setup { IsSetup setup.now }
         requires past { IsPastAll setup.now injections.now self.old }
         requires goes { end_at setup.now injections.now self.old ≡ None }
         requires passed { HasPassed setup.now self.old }
-        requires meter { meter.old < 2 ^ 62 + self.old.kernel.steps }
+        requires meter { self.old.simulation.meter < 2 ^ 62 + self.old.simulation.kernel.steps }
         ensures legs { self.new.legs ≡ self.old.legs }
         ensures table { self.new.table ≡ self.old.table }
         ensures led { OnOk result (IsLedOn setup.now self.old self.new) }
         ensures passed { OnOk result (HasPassed setup.now self.new) }
         ensures rest { IfOk result (IsAheadOf setup.now self.old self.new) }
     {
-        let hint = self.kernel.hint(setup.app);
+        let hint = self.simulation.kernel.hint(setup.app);
         if let Some(rest) = self.known_rest(setup, hint) {
             return Ok(rest);
         }
         self.note(hint);
         if self.meetings.are_likely() {
-            self.run_on(setup, injections, last, meter)
+            self.run_on(setup, injections, last)
         } else {
-            self.run_out(setup, injections, meter)
+            self.run_out(setup, injections)
         }
     }
 
     // The rest of the row of a point that has come this far, or reached this end.
-    fn rest(
-        &mut self,
-        setup: &Setup<'_>,
-        point: &Point,
-        end: Option<End>,
-        meter: &mut Meter,
-    ) -> Result<Ahead, Memory>
+    fn rest(&mut self, setup: &Setup<'_>, point: &Point, end: Option<End>) -> Result<Ahead, Memory>
         requires setup { IsSetup setup.now }
         requires way { IsOnWay setup.now point.now self.old }
-        requires beyond { end ≡ None → last_step point.now < self.old.kernel.steps }
+        requires beyond { end ≡ None → last_step point.now < self.old.simulation.kernel.steps }
         requires end { end ≡ end_at setup.now point.now self.old }
         requires marks { HasMarks setup.now self.old }
         requires legs { HasLegs setup.now self.old }
         requires passed { self.old.passed.items ≡ [] }
-        requires meter { meter.old < 2 ^ 62 + self.old.kernel.steps }
+        requires meter { self.old.simulation.meter < 2 ^ 62 + self.old.simulation.kernel.steps }
         ensures legs { self.new.legs ≡ self.old.legs }
         ensures table { self.new.table ≡ self.old.table }
         ensures rest { IfOk result (IsRestOfRow setup.now point.now self.old self.new) }
@@ -325,7 +309,7 @@ impl Runner {
         point.well_formed();
         let injections = point.injections();
         let last = point.last_step();
-        let rest = self.run_from_mark_step(setup, injections.as_slice(), last, meter)?;
+        let rest = self.run_from_mark_step(setup, injections.as_slice(), last)?;
         Ok(rest)
     }
 
@@ -351,7 +335,7 @@ impl Runner {
     // The row on its way is over, with this rest and the leg of this number. The kernels that it
     // reached are marks now.
     fn put_marks(&mut self, number: usize, rest: &Ahead, last: u32)
-        ensures trail { self.new.trail ≡ self.old.trail }
+        ensures trail { self.new.simulation.trail ≡ self.old.simulation.trail }
         ensures legs { self.new.legs ≡ self.old.legs }
         ensures marks { ArePut number rest.now self.old.passed.items self.old.table.marks.items self.new.table.marks.items }
     {
@@ -375,15 +359,15 @@ impl Runner {
     // this place on.
     fn close(&mut self, rest: &Ahead, from: usize, last: u32) -> Result<Link, Memory>
         ensures link { IfOk result (λ link. link ≡ links.Leg (length self.old.legs.items) from) }
-        ensures trail { self.new.trail ≡ self.old.trail }
+        ensures trail { self.new.simulation.trail ≡ self.old.simulation.trail }
         ensures legs { OnOk result (self.new.legs.items ≡ self.old.legs.items
-            ++ record { to = length (all_of self.old.trail); next = rest.now.told } ∷ []) }
+            ++ record { to = length (all_of self.old.simulation.trail); next = rest.now.told } ∷ []) }
         ensures marks { OnOk result (ArePut (length self.old.legs.items) rest.now self.old.passed.items
             self.old.table.marks.items self.new.table.marks.items) }
     {
         let number = self.legs.len();
         let leg = Leg {
-            to: self.trail.len(),
+            to: self.simulation.trail.len(),
             next: rest.told,
         };
         if self.legs.push(leg).is_err() {
@@ -396,12 +380,12 @@ impl Runner {
     // The row on its way is over, with this rest, and its events aren't kept. They leave the trail,
     // and it gets no leg: nothing follows the link of a mark that is put here.
     fn close_without_events(&mut self, rest: &Ahead, from: usize, last: u32)
-        ensures trail { all_of self.new.trail ≡ take from (all_of self.old.trail) }
+        ensures trail { all_of self.new.simulation.trail ≡ take from (all_of self.old.simulation.trail) }
         ensures legs { self.new.legs ≡ self.old.legs }
         ensures marks { ArePut (length self.old.legs.items) rest.now self.old.passed.items
             self.old.table.marks.items self.new.table.marks.items }
     {
-        self.trail.truncate(from);
+        self.simulation.trail.truncate(from);
         let number = self.legs.len();
         self.put_marks(number, rest, last);
     }
@@ -424,22 +408,13 @@ impl Runner {
         let base = shelf.base();
         self.passed.clear();
         self.spacing.begin_row(point);
-        let from = self.trail.len();
+        let from = self.simulation.trail.len();
         let last = point.last_step();
         let until = first_mark(&self.spacing, point);
-        let mut meter = Meter::new();
-        let begun = shelf.begin_row_after(
-            setup.app,
-            point,
-            until,
-            walk,
-            &mut self.kernel,
-            &mut meter,
-            &mut self.log,
-            &mut self.trail,
-        )?;
-        let rest = self.rest(setup, point, begun.end, &mut meter)?;
-        let own = self.kernel.steps().saturating_sub(last);
+        self.simulation.meter = Meter::new();
+        let begun = shelf.begin_row_after(setup.app, point, until, walk, &mut self.simulation)?;
+        let rest = self.rest(setup, point, begun.end)?;
+        let own = self.simulation.kernel.steps().saturating_sub(last);
         self.spacing.count_row(own, self.passed.len());
         if !setup.view.shows_events(rest.end) {
             self.close_without_events(&rest, from, last);
@@ -481,15 +456,9 @@ impl Runner {
         ensures row { IfOk result (RunsRow setup.now point.now self.old self.new) }
         ensures marks { OnOk result (HasMarks setup.now self.new) }
     {
-        let mut meter = Meter::new();
-        let comes = setup.shelf.walk_to(
-            setup.app,
-            point,
-            walk,
-            &mut meter,
-            &mut self.log,
-            &mut self.trail,
-        )?;
+        self.simulation.meter = Meter::new();
+        let shelf = setup.shelf;
+        let comes = shelf.walk_to(setup.app, point, walk, &mut self.simulation)?;
         if comes {
             self.reached(setup, point, walk)
         } else {

@@ -34,8 +34,8 @@ fn kind_of(end: End) -> usize
     }
 }
 
-/// How many rows of each kind a worker made that it hasn't added to its seat yet. All workers of a campaign add to the same few words of
-/// memory, which only one processor can write at a time. So each adds many rows at once.
+/// How many rows of each kind a worker made that it hasn't added to its seat yet. All workers of a campaign add to
+/// the same few words of memory, which only one processor can write at a time. So each adds many rows at once.
 #[derive(Drop)]
 pub(crate) struct RowCounts {
     pub(crate) kinds: [u64; KINDS],

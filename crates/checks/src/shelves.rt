@@ -2,9 +2,8 @@
 ghost use Rattle.std.specs.Prelude.{◌<◌, ◌≤◌};
 
 use crate::loading::loaded;
-use kernel::{Kernel, StepLog, Trail};
 use model::{App, HandlerId, Injection, Meter, Point};
-use shelf::{Row, Shelf, Walk};
+use shelf::{Row, Shelf, Simulation, Walk};
 use std::alloc::Global;
 use std::process::Abort;
 
@@ -138,27 +137,16 @@ fn known_at_six(rt: &impl Abort, alloc: Global, app: &App, step: u32) -> Option<
         return None;
     }
     let mut walk = Walk::new(app);
-    let mut meter = Meter::new();
-    let mut log = StepLog::new();
-    let mut trail = Trail::new(alloc);
+    let mut simulation = Simulation::new(alloc, app);
     let comes = shelf
-        .walk_to(app, &point, &mut walk, &mut meter, &mut log, &mut trail)
+        .walk_to(app, &point, &mut walk, &mut simulation)
         .expect(rt, "memory");
     assert!(rt; comes);
-    let mut kernel = Kernel::boot(app);
     shelf
-        .begin_row_after(
-            app,
-            &point,
-            6,
-            &walk,
-            &mut kernel,
-            &mut meter,
-            &mut log,
-            &mut trail,
-        )
+        .begin_row_after(app, &point, 6, &walk, &mut simulation)
         .expect(rt, "memory");
-    shelf.known(&kernel, kernel.hint(app))
+    let kernel = &simulation.kernel;
+    shelf.known(kernel, kernel.hint(app))
 }
 
 #[test]

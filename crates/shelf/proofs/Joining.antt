@@ -1,9 +1,8 @@
 -- Where other runs join the base run, as stops are put along it.
-use Rattle.std.proofs.Common.{◌≡◌, ◌<◌, ◌≤◌, ℕ, zero, suc, List, [], ◌∷◌, ◌++◌, Option, None, Some, length, length-append}
-use Rattle.std.proofs.Common.{slice_index_or, drop, refl, sym, ap, subst, ◌∙◌, append-nil, arith}
+use Rattle.std.proofs.Common.{◌≡◌, ◌≤◌, ℕ, zero, suc, List, [], ◌∷◌, ◌++◌, Option, None, Some, length, length-append}
+use Rattle.std.proofs.Common.{drop, refl, sym, ap, subst, ◌∙◌, append-nil, arith}
 use Rattle.std.specs.Prelude.{IfSome, slice_get}
 use Rattle.std.proofs.lemmas.List.{drop-append-le}
-use Rattle.std.proofs.lemmas.Option.{slice_get_read}
 use Rattle.std.proofs.Math.Seq.{drop-length}
 use Rattle.model.specs.declared.event.Event.{Event}
 use Rattle.model.specs.Application.{Application, Limits}
@@ -16,7 +15,6 @@ use Rattle.kernel.specs.declared.rests.RestEnding.{RestEnding}
 use Rattle.kernel.proofs.Leading.{leads_here, leads_then, rest_before}
 use Rattle.shelf.specs.declared.stops.Stop.{Stop}
 use Rattle.shelf.specs.Rests.{JoinsBase, AreRests}
-use Rattle.shelf.specs.Shelves.{Shelved, IsShelf}
 
 -- The stop leads to the kernel, and the trail has the events on the way behind those that the run had told at the stop.
 pub record IsBehind (app : Application) (limits : Limits) (now : Machine) (trail : List Event) (stop : Stop) : Type 0 where

@@ -3,9 +3,11 @@
 
 mod row;
 mod shelf;
+mod simulation;
 mod stops;
 mod walk;
 
 pub use row::{Row, RowBeginning};
 pub use shelf::Shelf;
+pub use simulation::Simulation;
 pub use walk::Walk;

@@ -14,9 +14,10 @@ ghost use Rattle.shelf.specs.Shelves.{IsShelf, cost_of, way_to};
 ghost use Rattle.shelf.specs.Walks.{IsWalk};
 
 use crate::row::{Row, RowBeginning};
+use crate::simulation::Simulation;
 use crate::stops::{Stop, put_stops};
 use crate::walk::Walk;
-use kernel::{Kernel, StepLog, Trail, begin_row};
+use kernel::{Kernel, begin_row};
 use model::{App, Event, Limits, Memory, Meter, Point, Run};
 use std::alloc::Global;
 use std::marker::Model;
@@ -136,8 +137,8 @@ impl Shelf {
         stop.before
     }
 
-    // Brings a walk to the stop before the first injection of a point that the base run reaches, if that is nearer than the walk, or the
-    // walk is past the injection.
+    // Brings a walk to the stop before the first injection of a point that the base run reaches, if that is nearer
+    // than the walk, or the walk is past the injection.
     fn come_near(&self, app: &App, point: &Point, walk: &mut Walk)
         requires shelf { IsShelf app.now self.now }
         requires reached { first_step point.now < self.now.base.steps }
@@ -153,52 +154,54 @@ impl Shelf {
         }
     }
 
-    /// Goes along the base run to the first injection of a point, and returns whether that can come there: then the point is reached.
-    /// The walk goes from where it is, or from the nearest stop before the injection, whichever is nearer. So most points that come in
-    /// order take few steps that aren't their rows' own. What the base run reports on the way leaves the trail. The meter, which is
-    /// below 2^62, rises by the steps on the way.
+    /// Goes along the base run to the first injection of a point, and returns whether that can come there: then the
+    /// point is reached. The walk goes from where it is, or from the nearest stop before the injection, whichever is
+    /// nearer. So most points that come in order take few steps that aren't their rows' own. What the base run
+    /// reports on the way leaves the trail. The meter, which is below 2^62, rises by the steps on the way. The
+    /// simulation's own kernel stays as it is.
     ///
-    /// `Err(Memory)` is returned only if a growth was refused, so never if the base run reports nothing before that. The meter has then
-    /// risen by no more than the way. The trail then has those events that it had, and some more after them, and the walk can't be used
-    /// any more.
+    /// `Err(Memory)` is returned only if a growth was refused, so never if the base run reports nothing before that.
+    /// The meter has then risen by no more than the way. The trail then has those events that it had, and some more
+    /// after them, and the walk can't be used any more.
     pub fn walk_to(
         &self,
         app: &App,
         point: &Point,
         walk: &mut Walk,
-        meter: &mut Meter,
-        log: &mut StepLog,
-        trail: &mut Trail,
+        simulation: &mut Simulation,
     ) -> Result<bool, Memory>
         requires shelf { IsShelf app.now self.now }
         requires reached { first_step point.now < self.now.base.steps }
         requires walk { IsWalk app.now self.now.limits walk.old }
-        requires meter { meter.old < 2 ^ 62 }
+        requires meter { simulation.old.meter < 2 ^ 62 }
         ensures walk { OnOk result (IsWalk app.now self.now.limits walk.new) }
         ensures there { OnOk result (walk.new.kernel.steps ≡ first_step point.now) }
         ensures comes { IfOk result (λ comes. comes ≡ is_reached app.now self.now.limits point.now self.now.base.steps) }
-        ensures trail { OnOk result (all_of trail.new ≡ all_of trail.old) }
+        ensures kernel { simulation.new.kernel ≡ simulation.old.kernel }
+        ensures trail { OnOk result (all_of simulation.new.trail ≡ all_of simulation.old.trail) }
         ensures meter { OnOk result
-            (meter.new ≡ meter.old + way_to self.now.stride walk.old.kernel.steps (first_step point.now)) }
-        ensures rises { meter.old ≤ meter.new }
-        ensures at_most { meter.new ≤ meter.old + way_to self.now.stride walk.old.kernel.steps (first_step point.now) }
-        ensures kept { OnErr result (Extends (all_of trail.old) (all_of trail.new)) }
+            (simulation.new.meter ≡ simulation.old.meter + way_to self.now.stride walk.old.kernel.steps (first_step point.now)) }
+        ensures rises { simulation.old.meter ≤ simulation.new.meter }
+        ensures at_most { simulation.new.meter
+            ≤ simulation.old.meter + way_to self.now.stride walk.old.kernel.steps (first_step point.now) }
+        ensures kept { OnErr result (Extends (all_of simulation.old.trail) (all_of simulation.new.trail)) }
         ensures memory { OnErr result (0 < length (events_after app.now self.now.limits [] (first_step point.now))) }
     {
         self.come_near(app, point, walk);
         // The base run has no more events than fit, so the sum below does.
         let _ = self.count_events();
-        let before = trail.len();
-        walk.go_to(app, point.first_step(), &self.limits, meter, log, trail)?;
-        walk.told += trail.len() - before;
-        trail.truncate(before);
+        let before = simulation.trail.len();
+        walk.go_to(app, point.first_step(), &self.limits, simulation)?;
+        walk.told += simulation.trail.len() - before;
+        simulation.trail.truncate(before);
         Ok(walk.can_come(point))
     }
 
-    /// Begins the row of a point, to whose first injection a walk has come (`walk_to`), and goes along it up to the step `until`, which is
-    /// after the last injection or no less than the limit of steps, or to its end before that. The trail gains the row's events from the
-    /// first injection on; those before it are the base run's, and the result says how many they are. What the kernel and the log have
-    /// doesn't matter. The meter, which is below 2^63, rises by the row's steps from the injection on.
+    /// Begins the row of a point, to whose first injection a walk has come (`walk_to`), and goes along it up to the
+    /// step `until`, which is after the last injection or no less than the limit of steps, or to its end before that.
+    /// The trail gains the row's events from the first injection on; those before it are the base run's, and the
+    /// result says how many they are. What the simulation's kernel and log have doesn't matter. The meter, which is
+    /// below 2^63, rises by the row's steps from the injection on.
     ///
     /// `Err(Memory)` is returned only if a growth was refused, so never if the row reports nothing.
     /// The meter has then risen by no more than the row's steps from that injection on.
@@ -209,29 +212,39 @@ impl Shelf {
         point: &Point,
         until: u32,
         walk: &Walk,
-        kernel: &mut Kernel,
-        meter: &mut Meter,
-        log: &mut StepLog,
-        trail: &mut Trail,
+        simulation: &mut Simulation,
     ) -> Result<RowBeginning, Memory>
         requires shelf { IsShelf app.now self.now }
         requires reached { first_step point.now < self.now.base.steps }
         requires beyond { min (last_step point.now + 1) self.now.limits.steps ≤ until }
         requires walk { IsWalk app.now self.now.limits walk.now }
         requires there { walk.now.kernel.steps ≡ first_step point.now }
-        requires meter { meter.old < 2 ^ 62 + first_step point.now }
-        ensures there { IfOk result (λ beginning. beginning.end ≡ None → kernel.new.steps ≡ until) }
-        ensures begun { IfOk result (HasBegun app.now point.now self.now.limits kernel.new (all_of trail.old) (all_of trail.new)) }
-        ensures before { IfOk result (λ beginning. beginning.before ≡ length (events_after app.now self.now.limits [] (first_step point.now))) }
-        ensures meter { OnOk result (meter.new + first_step point.now ≡ meter.old + kernel.new.steps) }
-        ensures rises { meter.old ≤ meter.new }
-        ensures kept { OnErr result (Extends (all_of trail.old) (all_of trail.new)) }
+        requires meter { simulation.old.meter < 2 ^ 62 + first_step point.now }
+        ensures there { IfOk result (λ beginning. beginning.end ≡ None → simulation.new.kernel.steps ≡ until) }
+        ensures begun { IfOk result (HasBegun app.now point.now self.now.limits simulation.new.kernel
+            (all_of simulation.old.trail) (all_of simulation.new.trail)) }
+        ensures before { IfOk result (λ beginning. beginning.before
+            ≡ length (events_after app.now self.now.limits [] (first_step point.now))) }
+        ensures meter { OnOk result
+            (simulation.new.meter + first_step point.now ≡ simulation.old.meter + simulation.new.kernel.steps) }
+        ensures rises { simulation.old.meter ≤ simulation.new.meter }
+        ensures kept { OnErr result (Extends (all_of simulation.old.trail) (all_of simulation.new.trail)) }
         ensures refused { OnErr result ((run : definition.Run) → IsRun app.now point.now self.now.limits run
-            → (meter.new ≤ meter.old + (run.steps - first_step point.now)) × (0 < length run.events)) }
+            → (simulation.new.meter ≤ simulation.old.meter + (run.steps - first_step point.now))
+            × (0 < length run.events)) }
     {
         point.well_formed();
-        kernel.set_from(&walk.kernel);
-        let end = begin_row(kernel, app, point, until, &self.limits, meter, log, trail)?;
+        simulation.kernel.set_from(&walk.kernel);
+        let end = begin_row(
+            &mut simulation.kernel,
+            app,
+            point,
+            until,
+            &self.limits,
+            &mut simulation.meter,
+            &mut simulation.log,
+            &mut simulation.trail,
+        )?;
         Ok(RowBeginning {
             before: walk.told,
             end,
@@ -270,54 +283,51 @@ impl Shelf {
         })
     }
 
-    // The row of a point, to whose first injection a walk has come, if it is reached. What the trail and the log have doesn't matter.
+    // The row of a point, to whose first injection a walk has come, if it is reached. What the simulation has but its meter doesn't
+    // matter.
     fn reached_row(
         &self,
         alloc: Global,
         app: &App,
         point: &Point,
         walk: &Walk,
-        meter: &mut Meter,
-        log: &mut StepLog,
+        simulation: &mut Simulation,
     ) -> Result<Row, Memory>
         requires shelf { IsShelf app.now self.now }
         requires reached { first_step point.now < self.now.base.steps }
         requires walk { IsWalk app.now self.now.limits walk.now }
         requires there { walk.now.kernel.steps ≡ first_step point.now }
-        requires meter { meter.old < 2 ^ 62 + first_step point.now }
+        requires meter { simulation.old.meter < 2 ^ 62 + first_step point.now }
         ensures row { IfOk result (λ row. (row.point ≡ point.now) × (row.reached ≡ true)
             × IsRun app.now point.now self.now.limits row.run) }
-        ensures meter { IfOk result (λ row. meter.new + first_step point.now ≡ meter.old + row.run.steps) }
+        ensures meter { IfOk result (λ row. simulation.new.meter + first_step point.now ≡ simulation.old.meter + row.run.steps) }
         ensures past { IfOk result (λ row. first_step point.now < row.run.steps) }
-        ensures rises { meter.old ≤ meter.new }
+        ensures rises { simulation.old.meter ≤ simulation.new.meter }
         ensures refused { OnErr result ((run : definition.Run) → IsRun app.now point.now self.now.limits run
-            → (meter.new ≤ meter.old + (run.steps - first_step point.now)) × (0 < length run.events)) }
+            → (simulation.new.meter ≤ simulation.old.meter + (run.steps - first_step point.now))
+            × (0 < length run.events)) }
     {
         self.limits.well_formed();
-        let mut kernel = Kernel::boot(app);
-        let mut trail = Trail::new(alloc);
+        simulation.trail.truncate(0);
         let RowBeginning { before, end } = self.begin_row_after(
             app,
             point,
             u32::MAX,
             walk,
-            &mut kernel,
-            meter,
-            log,
-            &mut trail,
+            simulation,
         )?;
         let Some(end) = end else {
             // No run gets so far (profile).
             unreachable!();
         };
-        let events = self.with_shared(alloc, before, trail.events())?;
+        let events = self.with_shared(alloc, before, simulation.trail.events())?;
         Ok(Row {
             point: *point,
             reached: true,
             run: Run {
                 events,
-                steps: kernel.steps(),
-                ticks: kernel.ticks(),
+                steps: simulation.kernel.steps(),
+                ticks: simulation.kernel.ticks(),
                 end,
             },
         })
@@ -329,38 +339,39 @@ impl Shelf {
         alloc: Global,
         app: &App,
         point: &Point,
-        meter: &mut Meter,
+        simulation: &mut Simulation,
     ) -> Result<Row, Memory>
         requires shelf { IsShelf app.now self.now }
         requires reached { first_step point.now < self.now.base.steps }
-        requires meter { meter.old < 2 ^ 62 }
+        requires meter { simulation.old.meter < 2 ^ 62 }
         ensures point { IfOk result (λ row. row.point ≡ point.now) }
         ensures row { IfOk result (λ row. IsRow app.now self.now.limits point.now row.reached row.run) }
-        ensures meter { IfOk result (λ row. meter.new ≡ meter.old + cost_of self.now point.now row.reached row.run.steps) }
-        ensures rises { meter.old ≤ meter.new }
+        ensures meter { IfOk result (λ row. simulation.new.meter
+            ≡ simulation.old.meter + cost_of self.now point.now row.reached row.run.steps) }
+        ensures rises { simulation.old.meter ≤ simulation.new.meter }
         ensures refused { OnErr result ((reached : Bool) (run : definition.Run)
             → IsRow app.now self.now.limits point.now reached run
-            → (meter.new ≤ meter.old + cost_of self.now point.now reached run.steps) × (0 < length run.events)) }
+            → (simulation.new.meter ≤ simulation.old.meter + cost_of self.now point.now reached run.steps)
+            × (0 < length run.events)) }
     {
         point.well_formed();
         let mut walk = Walk::new(app);
-        let mut log = StepLog::new();
-        let mut trail = Trail::new(alloc);
-        if self.walk_to(app, point, &mut walk, meter, &mut log, &mut trail)? {
-            self.reached_row(alloc, app, point, &walk, meter, &mut log)
+        if self.walk_to(app, point, &mut walk, simulation)? {
+            self.reached_row(alloc, app, point, &walk, simulation)
         } else {
             self.missed_row(alloc, *point)
         }
     }
 
-    /// The row of a point: the run with all its injections if the base run gets beyond the step of the first and that can come there,
-    /// otherwise the base run.
+    /// The row of a point: the run with all its injections if the base run gets beyond the step of the first and that
+    /// can come there, otherwise the base run.
     ///
-    /// The meter, which is below 2^62, rises by the steps from the nearest stop before the first injection to the row's end. If the point
-    /// isn't reached, it rises by those to the injection, if the base run gets there, and otherwise by none.
+    /// The meter, which is below 2^62, rises by the steps from the nearest stop before the first injection to the
+    /// row's end. If the point isn't reached, it rises by those to the injection, if the base run gets there, and
+    /// otherwise by none.
     ///
-    /// `Err(Memory)` is returned only if a growth was refused, so never if the row reports nothing. The meter has then risen by no more
-    /// than that.
+    /// `Err(Memory)` is returned only if a growth was refused, so never if the row reports nothing. The meter has
+    /// then risen by no more than that.
     pub fn run_point(
         &self,
         alloc: Global,
@@ -378,10 +389,13 @@ impl Shelf {
             → IsRow app.now self.now.limits point reached run
             → (meter.new ≤ meter.old + cost_of self.now point reached run.steps) × (0 < length run.events)) }
     {
-        if self.gets_to(&point) {
-            self.row_beyond(alloc, app, &point, meter)
-        } else {
-            self.missed_row(alloc, point)
+        if !self.gets_to(&point) {
+            return self.missed_row(alloc, point);
         }
+        let mut simulation = Simulation::new(alloc, app);
+        std::mem::swap(meter, &mut simulation.meter);
+        let row = self.row_beyond(alloc, app, &point, &mut simulation);
+        std::mem::swap(meter, &mut simulation.meter);
+        row
     }
 }

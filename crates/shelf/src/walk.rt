@@ -10,8 +10,9 @@ ghost use Rattle.kernel.specs.Leads.{IsLed};
 ghost use Rattle.kernel.specs.Rows.{Extends};
 ghost use Rattle.shelf.specs.Walks.{IsWalk};
 
-use kernel::{Kernel, StepLog, Trail, go_far};
-use model::{App, End, Limits, Memory, Meter, Point};
+use crate::simulation::Simulation;
+use kernel::{Kernel, go_far};
+use model::{App, End, Limits, Memory, Point};
 
 /// A kernel that goes along the base run, from the first injection of one point to that of the
 /// next, and how many events that run has reported before it. If points come in order, it does each
@@ -43,32 +44,42 @@ impl Walk {
         self.kernel.can_come(point.first().handler)
     }
 
-    /// Goes along the base run up to this step, which that reaches. The trail gains what it reports on the way. The meter, which is below
-    /// 2^62 and the steps that the walk has done, rises by the steps that are done here.
+    /// Goes along the base run up to this step, which that reaches. The trail gains what it reports on the way. The
+    /// meter, which is below 2^62 and the steps that the walk has done, rises by the steps that are done here. The
+    /// simulation's own kernel stays as it is.
     pub(crate) fn go_to(
         &mut self,
         app: &App,
         step: u32,
         limits: &Limits,
-        meter: &mut Meter,
-        log: &mut StepLog,
-        trail: &mut Trail,
+        simulation: &mut Simulation,
     ) -> Result<(), Memory>
         requires way { IsUnderWay app.now [] limits.now self.old.kernel }
         requires ahead { self.old.kernel.steps ≤ step }
         requires reached { (n : ℕ) → n ≤ step → end_of app.now limits.now (state_after app.now limits.now [] n) ≡ None }
-        requires meter { meter.old < 2 ^ 62 + self.old.kernel.steps }
+        requires meter { simulation.old.meter < 2 ^ 62 + self.old.kernel.steps }
         ensures told { self.new.told ≡ self.old.told }
+        ensures kernel { simulation.new.kernel ≡ simulation.old.kernel }
         ensures way { OnOk result (IsUnderWay app.now [] limits.now self.new.kernel) }
         ensures there { OnOk result (self.new.kernel.steps ≡ step) }
-        ensures led { OnOk result (IsLed app.now limits.now self.old.kernel self.new.kernel (all_of trail.old) (all_of trail.new)) }
-        ensures meter { OnOk result (meter.new + self.old.kernel.steps ≡ meter.old + step) }
-        ensures rises { meter.old ≤ meter.new }
-        ensures at_most { meter.new + self.old.kernel.steps ≤ meter.old + step }
-        ensures kept { OnErr result (Extends (all_of trail.old) (all_of trail.new)) }
+        ensures led { OnOk result (IsLed app.now limits.now self.old.kernel self.new.kernel
+            (all_of simulation.old.trail) (all_of simulation.new.trail)) }
+        ensures meter { OnOk result (simulation.new.meter + self.old.kernel.steps ≡ simulation.old.meter + step) }
+        ensures rises { simulation.old.meter ≤ simulation.new.meter }
+        ensures at_most { simulation.new.meter + self.old.kernel.steps ≤ simulation.old.meter + step }
+        ensures kept { OnErr result (Extends (all_of simulation.old.trail) (all_of simulation.new.trail)) }
         ensures memory { OnErr result (0 < length (events_after app.now limits.now [] step)) }
     {
-        let ending = go_far(&mut self.kernel, app, &[], step, limits, meter, log, trail)?;
+        let ending = go_far(
+            &mut self.kernel,
+            app,
+            &[],
+            step,
+            limits,
+            &mut simulation.meter,
+            &mut simulation.log,
+            &mut simulation.trail,
+        )?;
         match ending {
             None => Ok(()),
             Some(ending) => {

@@ -11,5 +11,5 @@ returns c =
     let shelf = setup.shelf.now in
     let way = c.requires.way in
     let told = subst (λ (b : Run). c.end_of_base.result ≡ link.Base (length b.events)) c.base.ensures c.end_of_base.ensures in
-    ended_rest setup.app.now shelf.limits setup.view.now shelf.base c.args.point.now c.args.self.now.kernel
+    ended_rest setup.app.now shelf.limits setup.view.now shelf.base c.args.point.now c.args.self.now.simulation.kernel
     way (store_in c.args.self.now) _ _ _ c.args.end c.requires.end told c.steps.ensures (c.ticks.ensures _ way.stands)

@@ -8,8 +8,8 @@ use Rattle.campaign.proofs.runner.Runner.note.Goals as goal
 
 pub returns-clause-passed : goal.returns-clause-passed
 returns-clause-passed c = λ app limits all.
-    let trail = all_of c.args.self.now.trail in
-    let k = c.args.self.now.kernel in
+    let trail = all_of c.args.self.now.simulation.trail in
+    let k = c.args.self.now.simulation.kernel in
     let p : Passed = record { kernel = c.in-Some.kernel; hint = c.args.hint; from = c.len-from.result } in
     let pushed : c.push.new.self.items ≡ c.args.self.now.passed.items ++ p ∷ [] =
     pushed_at c.push.result _ _ _ (sym c.is_err.ensures.value ∙ c.if-is_err.false) c.push.ensures.items in

@@ -4,7 +4,7 @@ use Rattle.campaign.proofs.runner.Runner.put_marks.Given as goal
 
 abbrev pub invariant-loop-passed : goal.invariant-loop-passed
 invariant-loop-passed l = record {
-  trail : l.self.trail ≡ l.fn.self.trail;
+  trail : l.self.simulation.trail ≡ l.fn.self.simulation.trail;
   legs : l.self.legs ≡ l.fn.self.legs;
   right : LeavesRight l.number l.rest l.fn.self.passed.items
       l.fn.self.table.marks.items l.self.passed.items l.self.table.marks.items;

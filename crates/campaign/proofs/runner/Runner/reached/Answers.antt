@@ -16,7 +16,7 @@ rest-requires-clause-marks c =
     let shelf = c.args.setup.now.shelf.now in
     let begun = c.in_ok-begun.ensures.begun in
     let old = store_in c.args.self.now in
-    let mid : Store = record { trail = all_of c.begin_row_after.new.trail; legs = c.args.self.now.legs.items } in
+    let mid : Store = record { trail = all_of c.begin_row_after.new.simulation.trail; legs = c.args.self.now.legs.items } in
     let grown : Grows old mid = record { own = begun.own; trail = begun.kept; more = []; legs = sym (append-nil old.legs) } in
     still_marked c.args.setup.now.app.now shelf.limits c.args.setup.now.view.now shelf.base old mid
     c.requires.legs grown c.args.self.now.table.marks.items c.requires.marks
@@ -25,7 +25,7 @@ pub rest-requires-clause-legs : goal.rest-requires-clause-legs
 rest-requires-clause-legs c =
     let begun = c.in_ok-begun.ensures.begun in
     let old = store_in c.args.self.now in
-    let mid : Store = record { trail = all_of c.begin_row_after.new.trail; legs = c.args.self.now.legs.items } in
+    let mid : Store = record { trail = all_of c.begin_row_after.new.simulation.trail; legs = c.args.self.now.legs.items } in
     let grown : Grows old mid = record { own = begun.own; trail = begun.kept; more = []; legs = sym (append-nil old.legs) } in
     same_legs c.args.setup.now.shelf.now.base.events old c.requires.legs mid grown refl
 
@@ -35,13 +35,13 @@ returns-clause-row c =
     let begun = c.in_ok-begun.ensures in
     let rest = c.in_ok-rest.ensures in
     let closed = c.in_ok-told.ensures in
-    let mid : Store = record { trail = all_of c.begin_row_after.new.trail; legs = c.args.self.now.legs.items } in
+    let mid : Store = record { trail = all_of c.begin_row_after.new.simulation.trail; legs = c.args.self.now.legs.items } in
     let over = store_in c.rest.new.self in
     let goes : IsRestOf c.args.setup.now.app.now shelf.limits c.args.setup.now.view.now shelf.base
-    mid over c.args.point.now c.begin_row_after.new.kernel c.in_ok-rest.rest =
+    mid over c.args.point.now c.begin_row_after.new.simulation.kernel c.in_ok-rest.rest =
     rest.rest in
     reached_row c.args.setup.now.app.now shelf.limits c.args.setup.now.view.now shelf.base c.requires.setup.is_base
-    c.args.point.now (store_in c.args.self.now) mid over c.begin_row_after.new.kernel c.in_ok-begun.begun
+    c.args.point.now (store_in c.args.self.now) mid over c.begin_row_after.new.simulation.kernel c.in_ok-begun.begun
     c.requires.legs begun.begun refl c.in_ok-rest.rest goes (ap (λ v. v.items) rest.legs)
     (store_in c.close.new.self) begun.before c.requires.beyond c.requires.reached
     (sym c.shows_events.ensures ∙ c.if-not-shows_events.false)
@@ -55,14 +55,15 @@ returns-clause-marks c =
     let begun = c.in_ok-begun.ensures in
     let rest = c.in_ok-rest.ensures in
     let closed = c.in_ok-told.ensures in
-    let mid : Store = record { trail = all_of c.begin_row_after.new.trail; legs = c.args.self.now.legs.items } in
+    let mid : Store = record { trail = all_of c.begin_row_after.new.simulation.trail; legs = c.args.self.now.legs.items } in
     let over = store_in c.rest.new.self in
     let new = store_in c.close.new.self in
-    let goes : IsRestOf app shelf.limits view shelf.base mid over c.args.point.now c.begin_row_after.new.kernel c.in_ok-rest.rest =
+    let goes : IsRestOf app shelf.limits view shelf.base mid over c.args.point.now
+    c.begin_row_after.new.simulation.kernel c.in_ok-rest.rest =
     rest.rest in
     let legs =
     its_legs app shelf.limits view shelf.base c.requires.setup.is_base c.args.point.now
-    (store_in c.args.self.now) mid over c.begin_row_after.new.kernel c.in_ok-begun.begun
+    (store_in c.args.self.now) mid over c.begin_row_after.new.simulation.kernel c.in_ok-begun.begun
     c.requires.legs begun.begun refl c.in_ok-rest.rest goes (ap (λ v. v.items) rest.legs) in
     let still =
     still_marked app shelf.limits view shelf.base (store_in c.args.self.now) new c.requires.legs
@@ -78,14 +79,14 @@ returns-then-not-shows_events-clause-row c =
     let begun = c.in_ok-begun.ensures in
     let rest = c.in_ok-rest.ensures in
     let closed = c.close_without_events.ensures in
-    let mid : Store = record { trail = all_of c.begin_row_after.new.trail; legs = c.args.self.now.legs.items } in
+    let mid : Store = record { trail = all_of c.begin_row_after.new.simulation.trail; legs = c.args.self.now.legs.items } in
     let over = store_in c.rest.new.self in
     let goes : IsRestOf c.args.setup.now.app.now shelf.limits c.args.setup.now.view.now shelf.base
-    mid over c.args.point.now c.begin_row_after.new.kernel c.in_ok-rest.rest =
+    mid over c.args.point.now c.begin_row_after.new.simulation.kernel c.in_ok-rest.rest =
     rest.rest in
     let told = subst (λ (b : Run). c.end_of_base.result ≡ link.Base (length b.events)) c.base-base.ensures c.end_of_base.ensures in
     bare_row c.args.setup.now.app.now shelf.limits c.args.setup.now.view.now shelf.base c.requires.setup.is_base
-    c.args.point.now (store_in c.args.self.now) mid over c.begin_row_after.new.kernel c.in_ok-begun.begun
+    c.args.point.now (store_in c.args.self.now) mid over c.begin_row_after.new.simulation.kernel c.in_ok-begun.begun
     c.requires.legs begun.begun refl c.in_ok-rest.rest goes (ap (λ v. v.items) rest.legs)
     (store_in c.close_without_events.new.self) c.requires.reached
     (sym c.shows_events.ensures ∙ c.if-not-shows_events.true) _

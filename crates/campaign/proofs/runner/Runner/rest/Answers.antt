@@ -10,7 +10,8 @@ run_from_mark_step-requires-clause-past c =
     rw (c.as_slice.ensures, c.injections-injections.ensures)
     (record {
       way = c.requires.way;
-      past = none_from c.args.point.now c.well_formed-2.ensures c.args.self.now.kernel (c.requires.beyond c.in_default.is);
+      past = none_from c.args.point.now c.well_formed-2.ensures c.args.self.now.simulation.kernel
+          (c.requires.beyond c.in_default.is);
     })
 
 pub returns-clause-rest : goal.returns-clause-rest
@@ -20,16 +21,16 @@ returns-clause-rest c =
     let shelf = c.args.setup.now.shelf.now in
     let old = store_in c.args.self.now in
     let new = store_in c.run_from_mark_step.new.self in
-    let now = c.run_from_mark_step.new.self.kernel in
+    let now = c.run_from_mark_step.new.self.simulation.kernel in
     let run = c.in_ok-rest.ensures in
-    let led : IsLed app shelf.limits c.args.self.now.kernel now old.trail new.trail = run.led in
+    let led : IsLed app shelf.limits c.args.self.now.simulation.kernel now old.trail new.trail = run.led in
     let grown : Grows old new =
     record { own = led.own; trail = led.kept; more = []; legs = ap (λ v. v.items) run.legs ∙ sym (append-nil old.legs) } in
     let still =
     still_marked app shelf.limits view shelf.base old new c.requires.legs
     grown c.args.self.now.table.marks.items c.requires.marks in
     let ahead : IsRestIn app shelf.limits view shelf.base new now c.in_ok-rest.rest = run.rest view new still in
-    led_rest app shelf.limits view shelf.base c.args.point.now c.args.self.now.kernel c.requires.way old
+    led_rest app shelf.limits view shelf.base c.args.point.now c.args.self.now.simulation.kernel c.requires.way old
     new now c.in_ok-rest.rest c.well_formed-2.ensures (c.requires.beyond c.in_default.is) led ahead
 
 pub returns-clause-passed : goal.returns-clause-passed
@@ -39,9 +40,9 @@ returns-clause-passed c =
     let shelf = c.args.setup.now.shelf.now in
     let old = store_in c.args.self.now in
     let new = store_in c.run_from_mark_step.new.self in
-    let now = c.run_from_mark_step.new.self.kernel in
+    let now = c.run_from_mark_step.new.self.simulation.kernel in
     let run = c.in_ok-rest.ensures in
-    let led : IsLed app shelf.limits c.args.self.now.kernel now old.trail new.trail = run.led in
+    let led : IsLed app shelf.limits c.args.self.now.simulation.kernel now old.trail new.trail = run.led in
     let grown : Grows old new =
     record { own = led.own; trail = led.kept; more = []; legs = ap (λ v. v.items) run.legs ∙ sym (append-nil old.legs) } in
     let still =

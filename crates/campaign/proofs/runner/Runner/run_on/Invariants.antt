@@ -10,8 +10,8 @@ invariant-marks l = record {
   passed : HasPassed l.setup l.self;
   table : l.self.table ≡ l.fn.self.table;
   legs : l.self.legs ≡ l.fn.self.legs;
-  meter : l.meter + l.fn.self.kernel.steps ≡ l.fn.meter + l.self.kernel.steps;
+  meter : l.self.simulation.meter + l.fn.self.simulation.kernel.steps ≡ l.fn.self.simulation.meter + l.self.simulation.kernel.steps;
 }
 
 abbrev pub decreases-marks : goal.decreases-marks
-decreases-marks l = l.setup.shelf.now.limits.steps - l.self.kernel.steps
+decreases-marks l = l.setup.shelf.now.limits.steps - l.self.simulation.kernel.steps

@@ -10,7 +10,8 @@ go_far-requires-clause-ahead c =
     let setup = c.args.setup.now in
     let formed = rw c.limits-limits.ensures at c.well_formed-2.ensures in
     let low =
-    steps_low setup.app.now c.args.injections.now setup.shelf.now.limits formed c.args.self.now.kernel c.requires.past.way in
+    steps_low setup.app.now c.args.injections.now setup.shelf.now.limits formed c.args.self.now.simulation.kernel
+    c.requires.past.way in
     omega (arith, low)
 
 pub unreachable-requires : goal.unreachable-requires
@@ -26,7 +27,8 @@ pub returns-clause-passed : goal.returns-clause-passed
 returns-clause-passed c =
     let app = c.args.setup.now.app.now in
     let limits = c.args.setup.now.shelf.now.limits in
-    let led : IsLed app limits c.args.self.now.kernel c.go_far.new.kernel
-    (all_of c.args.self.now.trail) (all_of c.go_far.new.trail) =
+    let led : IsLed app limits c.args.self.now.simulation.kernel c.go_far.new.kernel
+    (all_of c.args.self.now.simulation.trail) (all_of c.go_far.new.trail) =
     rw c.limits-limits.ensures at c.in_ok-ending.ensures.led in
-    behind_on app limits _ _ c.args.self.now.kernel c.go_far.new.kernel led c.args.self.now.passed.items c.requires.passed
+    behind_on app limits _ _ c.args.self.now.simulation.kernel c.go_far.new.kernel led c.args.self.now.passed.items
+    c.requires.passed

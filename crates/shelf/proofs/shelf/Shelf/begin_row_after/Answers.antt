@@ -1,12 +1,10 @@
-use Rattle.std.proofs.Common.{◌≡◌, ◌<◌, ◌≤◌, ◌∙◌, ℕ, None, [], ap, sym, arith}
+use Rattle.std.proofs.Common.{◌≡◌, ◌<◌, ◌∙◌, None, [], ap, sym, arith}
 use Rattle.model.specs.Points.{first_step, last_step}
 use Rattle.kernel.proofs.Running.{steps_under}
 use Rattle.model.proofs.Injected.{first_to_last}
 use Rattle.machine.specs.declared.machine.Machine.{Machine}
 use Rattle.shelf.specs.Shelves.{Shelved}
-use Rattle.shelf.proofs.Along.{short_way}
 use Rattle.shelf.proofs.Begun.{has_begun}
-use Rattle.shelf.proofs.Walking.{on_err, row_tells}
 use Rattle.shelf.proofs.shelf.Shelf.begin_row_after.Goals as goal
 
 pub begin_row-requires-clause-beyond : goal.begin_row-requires-clause-beyond

@@ -1,4 +1,4 @@
-use Rattle.std.proofs.Common.{◌++◌, ◌<◌, ◌+◌, List, length, take, ap, ap₂, refl, subst, ◌∙◌, arith}
+use Rattle.std.proofs.Common.{◌++◌, ◌<◌, ◌+◌, List, length, take, ap, refl, subst, ◌∙◌, arith}
 use Rattle.std.proofs.lemmas.Result.{err_from_is_err_and}
 use Rattle.model.specs.declared.event.Event.{Event}
 use Rattle.model.specs.Points.{first_step}
@@ -16,25 +16,25 @@ with_shared-requires c =
 pub returns-in_err-events-clause-refused : goal.returns-in_err-events-clause-refused
 returns-in_err-events-clause-refused c =
     let p = err_from_is_err_and c.from_residual-in_err-events.result c.from_residual-in_err-events.ensures.1 in
-    let none = ap₂ (λ (told more : List Event). told ++ more) c.new-trail.ensures.before c.new-trail.ensures.told in
-    let k = c.begin_row_after.new.kernel in
+    let none = c.truncate.ensures in
+    let k = c.begin_row_after.new.simulation.kernel in
     let begun = c.in_ok-before.ensures.begun in
     rw p.1 (whole_refused c.args.app.now c.args.self.now c.requires.shelf c.args.point.now c.requires.reached
     k _ _ none c.in_ok-before.field-0 begun c.in_ok-before.ensures.before c.in-Some.end c.in-Some.is
     (state_after c.args.app.now c.args.self.now.limits c.args.point.now k.steps).elapsed refl
-    c.args.meter.now c.begin_row_after.new.meter
+    c.args.simulation.now.meter c.begin_row_after.new.simulation.meter
     c.in_ok-before.ensures.meter
     (subst (λ (events : List Event). 0 < c.in_ok-before.field-0.before + length events)
     c.events.ensures c.in_err-events.ensures.memory))
 
 pub returns-clause-row : goal.returns-clause-row
 returns-clause-row c =
-    let none = ap₂ (λ (told more : List Event). told ++ more) c.new-trail.ensures.before c.new-trail.ensures.told in
+    let none = c.truncate.ensures in
     let begun = c.in_ok-before.ensures.begun in (
       refl,
       refl,
       rw c.steps.ensures (whole_row c.args.app.now c.args.self.now c.requires.shelf c.args.point.now c.requires.reached
-          c.begin_row_after.new.kernel _ _ none c.in_ok-before.field-0 begun c.in_ok-before.ensures.before
+          c.begin_row_after.new.simulation.kernel _ _ none c.in_ok-before.field-0 begun c.in_ok-before.ensures.before
           c.in-Some.end c.in-Some.is c.ticks.result (c.ticks.ensures _ begun.way.stands)
           c.in_ok-events.events.items (c.in_ok-events.ensures.events
           ∙ ap (λ (events : List Event). take c.in_ok-before.field-0.before c.args.self.now.base.events ++ events)

@@ -11,7 +11,8 @@ overflow_add-walk c =
     let there = c.in_ok-go_to.ensures.there ∙ c.first_step.ensures in
     let on =
     is_walk c.args.app.now c.self.inside.limits c.args.self.now.limits (ap (λ (s : Shelved). s.limits) c.self.view_is)
-    c.come_near.new.walk c.come_near.ensures.walk c.go_to.new.self.kernel (all_of c.args.trail.now) (all_of c.go_to.new.trail)
+    c.come_near.new.walk c.come_near.ensures.walk c.go_to.new.self.kernel (all_of c.args.simulation.now.trail)
+    (all_of c.go_to.new.simulation.trail)
     c.in_ok-go_to.ensures.led c.in_ok-go_to.ensures.way (c.go_to.new.self.told + (c.len.result - c.len-before.result))
     (rw (c.in_ok-go_to.ensures.told, c.len.ensures, c.len-before.ensures) refl) in
     let told =
