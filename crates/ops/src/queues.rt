@@ -138,7 +138,8 @@ fn attempt_by_value(
 }
 
 /// `overwrite` and `give`: the call is done if it is possible, and is complete. The check fails if its item is missing.
-#[inline(always)]
+// A call, since with its code the compiler would make one of each step.
+#[inline(never)]
 pub fn do_now<L: Log>(
     machine: &mut Machine,
     app: &App,
