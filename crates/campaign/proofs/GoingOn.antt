@@ -22,11 +22,11 @@ use Rattle.kernel.specs.Rests.{IsRest}
 use Rattle.kernel.proofs.Alike.{rest_alike}
 use Rattle.kernel.proofs.Leading.{leads_here, leads_then, rest_before}
 use Rattle.deal.specs.Tallies.{Tallied}
-use Rattle.campaign.specs.declared.ahead.Ahead.{Ahead}
+use Rattle.campaign.specs.declared.meeting.ahead.Ahead.{Ahead}
 use Rattle.rows.specs.declared.link.Link.{Link}
 use Rattle.rows.specs.declared.link.Link.TheVariants as link
-use Rattle.campaign.specs.declared.mark.Mark.{Mark}
-use Rattle.campaign.specs.declared.mark.Passed.{Passed}
+use Rattle.campaign.specs.declared.meeting.mark.Mark.{Mark}
+use Rattle.campaign.specs.declared.meeting.mark.Passed.{Passed}
 use Rattle.rows.specs.declared.rows.KeptRow.{KeptRow}
 use Rattle.rows.specs.Links.{Store, AreLegs, Grows, Tells}
 use Rattle.campaign.specs.Marks.{rest_from, AreBehind, AreMarked, ArePut, IsBehind, IsPutAt, IsRestAt, Knows}

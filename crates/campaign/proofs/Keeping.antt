@@ -23,7 +23,7 @@ use Rattle.report.specs.declared.view.View.{View}
 use Rattle.deal.specs.Parts.{zeros}
 use Rattle.deal.specs.Tallies.{Sheet, Tallied}
 use Rattle.rows.specs.declared.rows.KeptRow.{KeptRow}
-use Rattle.campaign.specs.declared.ahead.Ahead.{Ahead}
+use Rattle.campaign.specs.declared.meeting.ahead.Ahead.{Ahead}
 use Rattle.campaign.specs.declared.worker.Outcome.{Outcome}
 use Rattle.rows.specs.declared.link.Leg.{Leg}
 use Rattle.rows.specs.declared.link.Link.{Link}

@@ -7,10 +7,10 @@ use Rattle.model.specs.declared.event.Event.{Event}
 use Rattle.model.specs.Application.{Application, Limits}
 use Rattle.model.specs.Run.{Run}
 use Rattle.report.specs.declared.view.View.{View}
-use Rattle.campaign.specs.declared.ahead.Ahead.{Ahead}
+use Rattle.campaign.specs.declared.meeting.ahead.Ahead.{Ahead}
 use Rattle.rows.specs.declared.link.Link.TheVariants as link
-use Rattle.campaign.specs.declared.mark.Mark.{Mark}
-use Rattle.campaign.specs.declared.mark.Passed.{Passed}
+use Rattle.campaign.specs.declared.meeting.mark.Mark.{Mark}
+use Rattle.campaign.specs.declared.meeting.mark.Passed.{Passed}
 use Rattle.rows.specs.declared.rows.KeptRow.{KeptRow}
 use Rattle.rows.specs.Links.{Store, AreLegs}
 use Rattle.campaign.specs.Working.{AreKnown, IsRestIn}

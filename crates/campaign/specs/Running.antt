@@ -10,8 +10,8 @@ use Rattle.model.specs.declared.plan.Injection.{Injection}
 use Rattle.model.specs.Run.{end_of, state_after}
 use Rattle.rows.specs.declared.rows.KeptRow.{KeptRow}
 use Rattle.rows.specs.Links.{AreLegs}
-use Rattle.campaign.specs.declared.ahead.Ahead.{Ahead}
-use Rattle.campaign.specs.declared.runner.Runner.{Runner}
+use Rattle.campaign.specs.declared.meeting.ahead.Ahead.{Ahead}
+use Rattle.campaign.specs.declared.meeting.runner.Runner.{Runner}
 use Rattle.campaign.specs.declared.setup.Setup.{Setup}
 use Rattle.campaign.specs.declared.worker.Outcome.{Outcome}
 use Rattle.campaign.specs.declared.worker.Worker.{Worker}

@@ -20,10 +20,10 @@ use Rattle.deal.specs.Totals.{total}
 use Rattle.rows.specs.declared.rows.KeptRow.{KeptRow}
 use Rattle.rows.specs.declared.rows.KeptBlock.{KeptBlock}
 use Rattle.rows.specs.declared.rows.Part.{Part}
-use Rattle.campaign.specs.declared.ahead.Ahead.{Ahead}
+use Rattle.campaign.specs.declared.meeting.ahead.Ahead.{Ahead}
 use Rattle.rows.specs.declared.link.Link.{Link}
-use Rattle.campaign.specs.declared.mark.Passed.{Passed}
-use Rattle.campaign.specs.declared.runner.Runner.{Runner}
+use Rattle.campaign.specs.declared.meeting.mark.Passed.{Passed}
+use Rattle.campaign.specs.declared.meeting.runner.Runner.{Runner}
 use Rattle.campaign.specs.declared.worker.Job.{Job}
 use Rattle.campaign.specs.declared.worker.Done.{Done}
 use Rattle.campaign.specs.declared.worker.Outcome.{Outcome}

@@ -2,24 +2,17 @@
 //! one run.
 #![tactic(auto)]
 
-mod ahead;
 mod all_rows;
 mod bytes_to_report;
 mod file;
 mod gate;
-mod mark;
-mod mark_steps;
-mod mark_table;
-mod meetings;
+mod meeting;
 mod named;
 mod one_run;
 mod points;
 mod recent;
-mod runner;
 mod setup;
-mod spacing;
 mod tallying;
-mod timers;
 mod worker;
 mod worker_results;
 

@@ -7,12 +7,10 @@ ghost use Rattle.campaign.specs.Setup.{work_of, IsSetup, IsWalkOf};
 ghost use Rattle.campaign.specs.Working.{counted, HasRoom, IsAmong, IsDone, IsJob};
 
 use crate::gate::Gate;
+use crate::meeting::{Runner, Spacing, Timers};
 use crate::recent::Recent;
-use crate::runner::Runner;
 use crate::setup::Setup;
-use crate::spacing::Spacing;
 use crate::tallying::RowCounts;
-use crate::timers::Timers;
 use deal::{Lane, Next, TallySeat};
 use model::{App, End, Memory, Point};
 use rows::{KeptBlock, KeptRow, KeptRows, Part};
