@@ -1,5 +1,5 @@
 -- What is known of a runner, and of the worker that has it, on the way through the rows of a setup.
-use Rattle.std.specs.Prelude.{ℕ, List, Option}
+use Rattle.std.specs.Prelude.{List, Option}
 use Rattle.std.specs.List.{AllByRecursion}
 use Rattle.machine.specs.Logged.{all_of}
 use Rattle.machine.specs.Can.{IsUnderWay}
