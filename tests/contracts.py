@@ -10,7 +10,7 @@ from definitions import ROOT, Name, bound_in, named_in, text_of
 TYPE = re.compile(r"(?:unsafe )?(?:impl(?:<[^>]*>)? (?P<law>[\w<>', ]+ for [&[]*)?|(?:pub(?:\(\w+\))? )?trait )(?P<name>\w+)")
 FUNCTION = re.compile(r"(?P<indent>\s*)(?P<pub>pub )?(?:pub\(\w+\) )?(?:const )?fn (?P<name>\w+)")
 # Crates of which no other makes use, and those that serve tests alone.
-OF_TESTS = ("part_checks", "checks", "comparison", "refusals", "dice", "slow")
+OF_TESTS = ("unit_tests", "integration_tests", "differential_tests", "allocation_failures", "random_apps", "reference_kernel")
 PROGRAM = "rtosim"
 
 

@@ -9,7 +9,7 @@ from claims import is_near
 from prose import text_of
 from running import ROOT, refused_texts
 
-COMPARISON = "crates/comparison/src"
+DIFFERENTIAL_TESTS = "crates/differential_tests/src"
 
 
 def said_of(what: str) -> str:
@@ -33,14 +33,14 @@ def mistakes() -> int:
 
 
 def random_applications() -> int:
-    """Of each test that compares the kernel with the slow program, as many as it has seeds."""
-    text = text_of(f"{COMPARISON}/random.rt")
+    """Of each test that compares the kernel with the reference kernel, as many as it has seeds."""
+    text = text_of(f"{DIFFERENTIAL_TESTS}/random.rt")
     seeds = re.search(r"fn seen_in\(.*?for seed in 0\.\.([\d_]+)", text, re.DOTALL)[1]
     return int(seeds.replace("_", "")) * text.count("= seen_in(")
 
 
 def rows_of_campaigns() -> int:
-    return int(re.search(r"seen\.rows == ([\d_]+)", text_of(f"{COMPARISON}/campaigns.rt"))[1].replace("_", ""))
+    return int(re.search(r"seen\.rows == ([\d_]+)", text_of(f"{DIFFERENTIAL_TESTS}/campaigns.rt"))[1].replace("_", ""))
 
 
 def tests_of_crates() -> int:

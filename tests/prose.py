@@ -48,7 +48,7 @@ REACHED = {
     "docs/architecture/campaigns.md": {"where": 1},
     "docs/architecture/contracts.md": {"where": 1},
     "docs/architecture/kernel.md": {"where": 1},
-    "docs/architecture/slow_program.md": {"answers": 1},
+    "docs/architecture/reference_kernel.md": {"answers": 1},
     "docs/decisions/campaigns.md": {"where": 2},
     "docs/decisions/fast_steps.md": {"where": 2},
     "docs/decisions/file_check.md": {"where": 1},
@@ -69,7 +69,7 @@ REACHED = {
 REACHED_BY_COMMENTS = {
     "model": {"where": 8, "behind": 2, "answers": 2, "comes to": 2, "is to be": 1, "who waits": 6, "of which": 2, "in force": 2, "whom": 1},
     "lists": {"where": 1}, "task_lists": {}, "groups": {}, "sched": {}, "objects": {}, "machine": {}, "ops": {},
-    "checks": {"where": 1}, "part_checks": {}, "refusals": {},
+    "integration_tests": {"where": 1}, "unit_tests": {}, "allocation_failures": {},
     "byte_io": {"where": 4, "of which": 1}, "shelf": {"where": 4}, "explorer": {"where": 4}, "rows": {"where": 12, "behind": 1, "of which": 1},
     "report": {"where": 3, "of which": 4}, "grammar": {"where": 1}, "script": {"where": 6}, "requests": {"of which": 1},
     "deal": {"of which": 2}, "campaign": {"where": 6, "of which": 1}, "jobs": {}, "rtosim": {"is to be": 1},

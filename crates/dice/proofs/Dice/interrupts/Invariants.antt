@@ -1,8 +1,0 @@
-use Rattle.std.proofs.Common.{◌+◌, ◌*◌, ◌≤◌, length}
-use Rattle.dice.specs.Known.{AreInterrupts}
-use Rattle.dice.proofs.Dice.interrupts.Given as goal
-
-abbrev pub invariant-loop : goal.invariant-loop
-invariant-loop l =
-    (length l.interrupts.items ≤ l.counter) × (1 ≤ l.tick)
-    × (l.tick ≤ 1 + 200000 * l.counter) × AreInterrupts l.tick l.interrupts.items

@@ -1,8 +1,0 @@
-use Rattle.std.proofs.Common.{ap, sym, subst}
-use Rattle.model.specs.Application.{Definition}
-use Rattle.dice.specs.Known.{AreKnown}
-use Rattle.dice.proofs.Dice.task.Goals as goal
-
-pub returns-clause-known : goal.returns-clause-known
-returns-clause-known c =
-    subst (AreKnown c.args.objects.now) (sym (ap (λ (d : Definition). d.script) c.new.ensures.value)) c.in_ok-script.ensures.known

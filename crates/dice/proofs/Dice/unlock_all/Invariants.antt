@@ -1,6 +1,0 @@
-use Rattle.std.proofs.Common.{◌≤◌, ◌+◌, length}
-use Rattle.dice.specs.Known.{AreKnown}
-use Rattle.dice.proofs.Dice.unlock_all.Given as goal
-
-abbrev pub invariant-loop-number : goal.invariant-loop-number
-invariant-loop-number l = (length l.script ≤ 28 + l.number) × AreKnown l.objects l.script

@@ -1,0 +1,162 @@
+//! Interrupt handlers: their ops, and how they come.
+
+use super::{ReferenceKernel, count_if};
+use model::{Access, AnswerCondition, App, End, HandlerDefinition, HandlerId, IsrOp, What};
+
+/// Where a handler goes on that leaves the branch whose first op is this one: behind its `else` or its `end`. Those that open on the
+/// way are passed whole.
+fn behind_branch(ops: &[IsrOp], first: u16) -> u16 {
+    let mut opened = 0_u16;
+    for index in first..HandlerDefinition::MOST_OPS as u16 {
+        match ops.get(index as usize) {
+            Some(IsrOp::If(_)) => opened = opened.wrapping_add(1),
+            Some(IsrOp::Else | IsrOp::EndIf) if opened == 0 => return index.wrapping_add(1),
+            Some(IsrOp::EndIf) => opened = opened.wrapping_sub(1),
+            _ => {}
+        }
+    }
+    first
+}
+
+impl ReferenceKernel {
+    /// A call of a handler is tried once, and never waits.
+    fn attempt_isr(&mut self, object: u8, access: Access<u32>) -> Option<u32> {
+        let answer = self.attempt(None, object, access);
+        let is_locked_give = access == Access::Give && self.locked == Some(object);
+        let gives = is_locked_give && answer == Some(1);
+        count_if(&mut self.tally.locked_gives, gives);
+        answer
+    }
+
+    /// An op of a handler, which reports its answer, if it has one. That is the handler's last answer then, and otherwise the one before.
+    fn isr(
+        &mut self,
+        app: &App,
+        handler: HandlerId,
+        op_index: u16,
+        op: &IsrOp,
+        last: Option<u32>,
+    ) -> Option<u32> {
+        let answer = match *op {
+            IsrOp::Mark(value) => {
+                let number = self.shown(value, last);
+                self.write(What::IsrMark(handler, number));
+                return last;
+            }
+            IsrOp::Source(other, what) => {
+                self.act_by_handler(other, what);
+                return last;
+            }
+            IsrOp::Expect(_) | IsrOp::If(_) | IsrOp::Else | IsrOp::EndIf => return last,
+            IsrOp::Do(object, access) => {
+                self.count_isr_sent(object.number, access, last);
+                self.attempt_isr(object.number, self.asked(access, last))
+            }
+            IsrOp::Command(command) => self.send_command(app, command),
+            IsrOp::Resume(task) => Some(self.resume(task) as u32),
+            IsrOp::GetBits(group) => Some(self.bits(group)),
+            IsrOp::Notify(task, action) => Some(self.notify(task, action, last)),
+            IsrOp::Value(op) => self.isr_values(op, last),
+        };
+        self.write(match answer {
+            Some(answer) => What::Isr(handler, op_index, answer),
+            None => What::IsrNone(handler, op_index),
+        });
+        answer
+    }
+
+    /// Whether an op is an `expect` that fails, or has no value to work with.
+    fn is_failing(&mut self, op: &IsrOp, last: Option<u32>) -> bool {
+        let IsrOp::Expect(condition) = *op else {
+            return self.is_isr_without_value(op, last);
+        };
+        let is_passed = self.is_so(condition, last);
+        self.count_isr_condition(condition);
+        count_if(&mut self.tally.passed_checks, is_passed);
+        count_if(&mut self.tally.failed_checks, !is_passed);
+        !is_passed
+    }
+
+    /// Whether the first branch of an `if` is done.
+    fn is_taken(&mut self, condition: AnswerCondition, last: Option<u32>) -> bool {
+        let is_taken = self.is_so(condition, last);
+        self.count_isr_condition(condition);
+        count_if(&mut self.tally.taken_by_handlers, is_taken);
+        count_if(&mut self.tally.skipped_by_handlers, !is_taken);
+        is_taken
+    }
+
+    /// The index of the op that is next behind that of this index.
+    fn next_op(&mut self, ops: &[IsrOp], op_index: u16, op: &IsrOp, last: Option<u32>) -> u16 {
+        let behind = op_index.wrapping_add(1);
+        match *op {
+            IsrOp::If(condition) if self.is_taken(condition, last) => behind,
+            IsrOp::If(_) | IsrOp::Else => behind_branch(ops, behind),
+            _ => behind,
+        }
+    }
+
+    /// The handler does its ops one after another, and nothing switches. What is behind an `expect` that fails isn't done.
+    pub(super) fn handle(&mut self, app: &App, handler: HandlerId) {
+        let Some(definition) = app.handlers().get(handler.number as usize) else {
+            return;
+        };
+        let ops = definition.ops();
+        let mut op_index = 0;
+        let mut answer = None;
+        for _ in 0..ops.len() {
+            let Some(op) = ops.get(op_index as usize) else {
+                return;
+            };
+            if self.is_failing(op, answer) {
+                self.fail(End::HandlerCheck(handler, op_index));
+                return;
+            }
+            let next = self.next_op(ops, op_index, op, answer);
+            answer = self.isr(app, handler, op_index, op, answer);
+            op_index = next;
+        }
+    }
+
+    /// The base interrupts of this tick come, whether they are armed or not.
+    fn come_by_file(&mut self, app: &App) {
+        for interrupt in app.interrupts() {
+            if interrupt.tick as u64 == self.elapsed {
+                let is_suspended = self.is_scheduler_suspended();
+                let is_armed = self.is_armed(interrupt.handler);
+                count_if(&mut self.tally.held_interrupts, is_suspended);
+                count_if(&mut self.tally.disarmed_interrupts, !is_armed);
+                self.come(app, interrupt.handler);
+            }
+        }
+    }
+
+    /// The base interrupts of this tick come, and then the handlers that were raised for it before the first of these came.
+    pub(super) fn interrupt(&mut self, app: &App) {
+        let raised = self.lower_due(app);
+        self.come_by_file(app);
+        self.come_raised(app, raised);
+    }
+
+    /// The interrupt comes before a step: the tick; or a handler, after which a task of higher priority runs, if there is one.
+    pub(super) fn serve(&mut self, app: &App, source: HandlerId) {
+        if app.is_tick(source) {
+            count_if(&mut self.tally.injected_ticks, true);
+            self.tick(app);
+            return;
+        }
+        self.come(app, source);
+        if self.may_switch() {
+            self.preempt();
+        }
+    }
+
+    /// Whether a base interrupt comes at a later tick, or a handler is raised.
+    pub(super) fn is_interrupt_to_come(&self, app: &App) -> bool {
+        let is_in_file = app
+            .interrupts()
+            .iter()
+            .any(|interrupt| interrupt.tick as u64 > self.elapsed);
+        is_in_file || self.is_any_raised()
+    }
+}

@@ -1,0 +1,681 @@
+//! The kernel as its definitions describe it: one table of tasks, each with its ticket, and one of objects. Every question is a
+//! search of the tables. It is slow, and says plainly what the kernel over lists has to do. So it is what that kernel is compared with.
+#![tactic(auto)]
+
+use calls::Side;
+use model::{App, End, Event, Injection, Limits, Loop, Op, Phase, TaskId, What};
+use notifications::{Notice, NoticeWait};
+use shared::Object;
+use sources::Source;
+use std::alloc::Global;
+use tally::count_if;
+use values::receives;
+use waits_for_bits::BitWait;
+
+mod blocks;
+mod calls;
+mod daemon;
+mod handlers;
+mod idle;
+mod misuses;
+mod mutexes;
+mod notifications;
+mod sections;
+mod shared;
+mod sources;
+mod suspension;
+mod tally;
+mod values;
+mod waits_for_bits;
+
+pub use tally::Tally;
+
+/// A wait that has begun: at which side of which object, with the priority that the task had then.
+#[derive(Clone, Copy)]
+struct Wait {
+    object: u8,
+    side: Side,
+    priority: u8,
+    deadline: Option<u64>,
+    ticket: u64,
+}
+
+#[derive(Clone, Copy)]
+enum Status {
+    /// In the ready list, with this ticket.
+    Ready(u64),
+    /// Woken from this wait through the locked object, and Ready when that is unlocked.
+    Awake(Wait),
+    /// By `delay_until`, which is periodic, or by `delay`.
+    Asleep {
+        wake_time: u64,
+        ticket: u64,
+        is_periodic: bool,
+    },
+    Waiting(Wait),
+    WaitingForBits(BitWait),
+    WaitingForNotification(NoticeWait),
+    /// In no list. Where a `delay_until` was cut off, this is the time until which it would have slept.
+    Suspended(Option<u64>),
+    Ended,
+}
+
+/// How far a call that may wait has come.
+#[derive(Clone, Copy, Default)]
+struct Call {
+    phase: Phase,
+    deadline: Option<u64>,
+    /// Whether its last Decide began a wait.
+    has_waited: bool,
+    /// Whether its last wait was for a mutex of another task, which had a lower base priority.
+    has_inherited: bool,
+    /// The bits with which a set has ended its wait.
+    kept: Option<u32>,
+}
+
+#[derive(Clone, Copy)]
+struct Task {
+    base_priority: u8,
+    priority: u8,
+    op_index: u16,
+    used: u32,
+    loops: [Loop; 4],
+    nesting: usize,
+    answer: Option<u32>,
+    /// Whether that is an item from a queue.
+    has_received: bool,
+    previous_wake: u64,
+    stamp: u64,
+    call: Call,
+    status: Status,
+}
+
+#[derive(Drop)]
+pub struct ReferenceKernel {
+    tasks: [Task; 32],
+    objects: Vec<Object>,
+    /// Which bits of each event group are set.
+    groups: [u32; 16],
+    /// The notification of each task.
+    notices: [Notice; 32],
+    /// The value of each variable.
+    variables: [u32; 32],
+    time: u64,
+    pub elapsed: u64,
+    current: Option<TaskId>,
+    /// Whether a call holds the scheduler.
+    is_held: bool,
+    /// How many `suspend_all` are in force, and how many ticks have come since the first of them.
+    suspensions: u32,
+    held_ticks: u32,
+    /// How many critical sections are open, and which handlers were injected meanwhile and haven't come yet.
+    sections: u32,
+    pending: [bool; 17],
+    /// What else is kept of each interrupt source: the handlers, and behind them the tick.
+    sources: [Source; 17],
+    /// The object that a call has locked.
+    locked: Option<u8>,
+    next_ticket: u64,
+    pub steps: u32,
+    stopped: Option<End>,
+    pub events: Vec<Event>,
+    pub tally: Tally,
+    pub is_out_of_memory: bool,
+}
+
+impl ReferenceKernel {
+    /// The kernel at reset.
+    pub fn boot(alloc: Global, app: &App) -> Self {
+        let no_task = Task {
+            base_priority: 0,
+            priority: 0,
+            op_index: 0,
+            used: 0,
+            loops: [Loop::default(); 4],
+            nesting: 0,
+            answer: None,
+            has_received: false,
+            previous_wake: app.start() as u64,
+            stamp: app.start() as u64,
+            call: Call::default(),
+            status: Status::Ended,
+        };
+        let mut kernel = ReferenceKernel {
+            tasks: [no_task; 32],
+            objects: Vec::new(alloc),
+            groups: [0; 16],
+            notices: [Notice::default(); 32],
+            variables: [0; 32],
+            time: app.start() as u64,
+            elapsed: 0,
+            current: None,
+            is_held: false,
+            suspensions: 0,
+            held_ticks: 0,
+            sections: 0,
+            pending: [false; 17],
+            sources: [Source::default(); 17],
+            locked: None,
+            next_ticket: 0,
+            steps: 0,
+            stopped: None,
+            events: Vec::new(alloc),
+            tally: Tally::default(),
+            is_out_of_memory: false,
+        };
+        kernel.make_objects(alloc, app);
+        kernel.reset_variables(app);
+        kernel.reset_sources(app);
+        kernel.make_all_ready(app);
+        kernel.current = kernel.choice();
+        kernel
+    }
+
+    fn make_all_ready(&mut self, app: &App) {
+        for number in 0..32 {
+            let task = TaskId { number };
+            if let Some(definition) = app.tasks().get(number as usize) {
+                self.tasks[number as usize].base_priority = definition.priority();
+                self.tasks[number as usize].priority = definition.priority();
+            }
+            if app.op_count(task) > 0 {
+                self.make_ready(task);
+            }
+        }
+    }
+
+    fn task(&self, task: TaskId) -> Task {
+        self.tasks[task.number as usize]
+    }
+
+    fn set(&mut self, task: TaskId, now: Task) {
+        self.tasks[task.number as usize] = now;
+    }
+
+    fn take_ticket(&mut self) -> u64 {
+        self.next_ticket = self.next_ticket.wrapping_add(1);
+        self.next_ticket
+    }
+
+    /// The printed tick.
+    fn tick_now(&self) -> u32 {
+        (self.time % 4_294_967_296) as u32
+    }
+
+    fn write(&mut self, what: What) {
+        let event = Event {
+            step: self.steps,
+            tick: self.tick_now(),
+            what,
+        };
+        self.is_out_of_memory |= self.events.push(event).is_err();
+    }
+
+    /// The task is Ready, behind all others of its priority.
+    fn make_ready(&mut self, task: TaskId) {
+        let is_suspended = self.is_scheduler_suspended();
+        count_if(&mut self.tally.held_wakes, is_suspended);
+        let status = Status::Ready(self.take_ticket());
+        self.set(
+            task,
+            Task {
+                status,
+                ..self.task(task)
+            },
+        );
+    }
+
+    fn is_ready(&self, task: TaskId) -> bool {
+        matches!(self.task(task).status, Status::Ready(_))
+    }
+
+    /// Whether one of two Ready tasks, by priority and ticket, comes before the other.
+    fn is_before(one: (u8, u64), other: (u8, u64)) -> bool {
+        one.0 > other.0 || (one.0 == other.0 && one.1 < other.1)
+    }
+
+    fn choice(&self) -> Option<TaskId> {
+        let mut best = None;
+        for number in 0..32 {
+            let task = self.task(TaskId { number });
+            let Status::Ready(ticket) = task.status else {
+                continue;
+            };
+            let key = (task.priority, ticket);
+            if best.is_none_or(|(_, other)| Self::is_before(key, other)) {
+                best = Some((number, key));
+            }
+        }
+        let (number, _) = best?;
+        TaskId::new(number)
+    }
+
+    /// Whether anything may switch: neither a call nor a task holds the scheduler.
+    fn may_switch(&self) -> bool {
+        !self.is_held && !self.is_scheduler_suspended() && !self.is_critical()
+    }
+
+    /// The choice runs.
+    fn choose(&mut self) {
+        let choice = self.choice();
+        if choice != self.current {
+            self.current = choice;
+            self.write(What::Run(choice));
+        }
+    }
+
+    /// Whether another task than the running one is Ready and has at least this priority.
+    fn is_any_ready_from(&self, priority: u8) -> bool {
+        for number in 0..32 {
+            let other = TaskId { number };
+            if self.is_ready(other)
+                && Some(other) != self.current
+                && self.task(other).priority >= priority
+            {
+                return true;
+            }
+        }
+        false
+    }
+
+    /// The running task goes behind the others of its priority, and the choice runs.
+    fn yield_now(&mut self) {
+        if let Some(task) = self.current {
+            self.to_back(task);
+        }
+        self.choose();
+    }
+
+    /// The priority of the running task; of idle it is below all others, which count from 1 here.
+    fn rank(&self) -> u8 {
+        match self.current {
+            None => 0,
+            Some(task) => self.task(task).priority.saturating_add(1),
+        }
+    }
+
+    /// A task of higher priority runs, if there is one.
+    fn preempt(&mut self) {
+        if self.is_any_ready_from(self.rank()) {
+            self.yield_now();
+        }
+    }
+
+    /// The end of a tick: equals take turns too.
+    fn slice(&mut self) {
+        if self.is_any_ready_from(self.rank().saturating_sub(1)) {
+            self.yield_now();
+        }
+    }
+
+    /// When a task wakes by itself, if it does, and its ticket.
+    fn alarm(&self, task: TaskId) -> Option<(u64, u64)> {
+        match self.task(task).status {
+            Status::Asleep {
+                wake_time,
+                ticket,
+                ..
+            } => Some((wake_time, ticket)),
+            Status::Waiting(wait) | Status::Awake(wait) => Some((wait.deadline?, wait.ticket)),
+            Status::WaitingForBits(wait) => Some((wait.deadline?, wait.ticket)),
+            Status::WaitingForNotification(wait) => Some((wait.deadline?, wait.ticket)),
+            Status::Ready(_) | Status::Suspended(_) | Status::Ended => None,
+        }
+    }
+
+    /// Of those who wake now, the one that began first.
+    fn first_due(&self) -> Option<TaskId> {
+        let mut best = None;
+        for number in 0..32 {
+            let Some((wake_time, ticket)) = self.alarm(TaskId { number }) else {
+                continue;
+            };
+            if wake_time != self.time {
+                continue;
+            }
+            if best.is_none_or(|(_, other)| ticket < other) {
+                best = Some((number, ticket));
+            }
+        }
+        let (number, _) = best?;
+        TaskId::new(number)
+    }
+
+    fn count_timeout(&mut self, task: TaskId) {
+        let status = self.task(task).status;
+        let is_timeout = matches!(status, Status::Waiting(_));
+        let is_bit_timeout = matches!(status, Status::WaitingForBits(_));
+        count_if(&mut self.tally.timeouts, is_timeout);
+        let is_notice_timeout = matches!(status, Status::WaitingForNotification(_));
+        count_if(&mut self.tally.bit_timeouts, is_bit_timeout);
+        count_if(&mut self.tally.notice_timeouts, is_notice_timeout);
+    }
+
+    /// All who are due wake.
+    fn wake_due(&mut self) {
+        for _ in 0..32 {
+            let Some(task) = self.first_due() else {
+                return;
+            };
+            self.count_timeout(task);
+            self.make_ready(task);
+        }
+    }
+
+    /// Time advances by a tick, and all who are due wake.
+    fn advance(&mut self) {
+        self.time = self.time.wrapping_add(1);
+        self.wake_due();
+    }
+
+    /// The tick interrupt: time advances, or the tick is held; the base interrupts of this tick come; and then there is one
+    /// switch for all of it, if there may be one.
+    fn tick(&mut self, app: &App) {
+        self.elapsed = self.elapsed.wrapping_add(1);
+        if self.is_held || self.is_scheduler_suspended() {
+            self.hold_tick();
+        } else {
+            self.advance();
+        }
+        self.end_tick(app);
+    }
+
+    /// The base interrupts of this tick come, and then there is one switch, if there may be one.
+    fn end_tick(&mut self, app: &App) {
+        self.interrupt(app);
+        if self.may_switch() {
+            self.slice();
+        }
+    }
+
+    /// The task, which is now as given, goes on at this op.
+    fn go_to(&mut self, app: &App, id: TaskId, op_index: u16, task: Task) {
+        let is_past = op_index as usize == app.op_count(id);
+        let status = if is_past { Status::Ended } else { task.status };
+        self.set(
+            id,
+            Task {
+                op_index,
+                used: 0,
+                call: Call::default(),
+                status,
+                ..task
+            },
+        );
+    }
+
+    fn complete(&mut self, app: &App, id: TaskId, task: Task) {
+        self.go_to(app, id, task.op_index.wrapping_add(1), task);
+    }
+
+    fn answer(&mut self, app: &App, id: TaskId, answer: Option<u32>) {
+        let task = self.task(id);
+        let what = match answer {
+            Some(number) => What::Call(id, task.op_index, number),
+            None => What::CallNone(id, task.op_index),
+        };
+        let has_received = answer.is_some() && receives(app.op(id, task.op_index));
+        self.write(what);
+        self.complete(
+            app,
+            id,
+            Task {
+                answer,
+                has_received,
+                ..task
+            },
+        );
+    }
+
+    fn to_back(&mut self, id: TaskId) {
+        if self.is_ready(id) {
+            self.make_ready(id);
+        }
+    }
+
+    fn sleep(&mut self, id: TaskId, wake_time: u64, is_periodic: bool) {
+        if self.is_ready(id) {
+            let ticket = self.take_ticket();
+            let status = Status::Asleep {
+                wake_time,
+                ticket,
+                is_periodic,
+            };
+            self.set(
+                id,
+                Task {
+                    status,
+                    ..self.task(id)
+                },
+            );
+        }
+    }
+
+    fn work(&mut self, app: &App, id: TaskId, units: u32) {
+        let task = self.task(id);
+        let used = task.used.wrapping_add(1);
+        if used == units {
+            self.complete(app, id, task);
+        } else {
+            self.set(id, Task { used, ..task });
+        }
+        self.tick(app);
+    }
+
+    fn delay(&mut self, app: &App, id: TaskId, ticks: u32) {
+        self.answer(app, id, Some(0));
+        if ticks == 0 {
+            self.yield_now();
+        } else {
+            self.sleep(id, self.time.wrapping_add(ticks as u64), false);
+        }
+    }
+
+    fn delay_until(&mut self, app: &App, id: TaskId, ticks: u32) {
+        let wake_time = self.task(id).previous_wake.wrapping_add(ticks as u64);
+        let sleeps = wake_time > self.time;
+        self.answer(app, id, Some(sleeps as u32));
+        self.set(
+            id,
+            Task {
+                previous_wake: wake_time,
+                ..self.task(id)
+            },
+        );
+        if sleeps {
+            self.sleep(id, wake_time, true);
+        }
+    }
+
+    fn stamp(&mut self, app: &App, id: TaskId) {
+        let task = Task {
+            stamp: self.time,
+            ..self.task(id)
+        };
+        count_if(&mut self.tally.stamps, true);
+        self.complete(app, id, task);
+    }
+
+    fn since(&mut self, app: &App, id: TaskId) {
+        let passed = self.time.saturating_sub(self.task(id).stamp);
+        count_if(&mut self.tally.measures, passed > 0);
+        count_if(&mut self.tally.long_measures, passed > 4_294_967_295);
+        self.answer(app, id, Some(passed.min(4_294_967_295) as u32));
+    }
+
+    /// A check fails. The first one that does in a step ends the run behind it.
+    fn fail(&mut self, check: End) {
+        let is_later = self.stopped.is_some();
+        count_if(&mut self.tally.later_failures, is_later);
+        if !is_later {
+            self.stopped = Some(check);
+        }
+    }
+
+    fn act(&mut self, app: &App, id: TaskId, op: Op) {
+        match op {
+            Op::Work(units) => self.work(app, id, units),
+            Op::Delay(ticks) => self.delay(app, id, ticks),
+            Op::DelayUntil(ticks) => self.delay_until(app, id, ticks),
+            Op::Yield => {
+                self.answer(app, id, Some(0));
+                self.yield_now();
+            }
+            Op::Time => self.answer(app, id, Some(self.tick_now())),
+            Op::Mark(value) => {
+                let number = self.shown(value, self.task(id).answer);
+                self.write(What::Mark(id, number));
+                self.complete(app, id, self.task(id));
+            }
+            Op::Expect(condition) => self.expect(app, id, condition),
+            Op::Repeat(turns) => self.open_loop(app, id, turns),
+            Op::End => self.close_turn(app, id),
+            Op::If(condition) => self.branch(app, id, condition),
+            Op::Else => self.skip_other_branch(app, id),
+            Op::EndIf => self.complete(app, id, self.task(id)),
+            Op::Break => self.leave_loop(app, id),
+            Op::Stamp => self.stamp(app, id),
+            Op::Since => self.since(app, id),
+            Op::Await(object, access, ticks) => {
+                self.count_passed_on(id, object.number, access);
+                let access = self.asked(access, self.task(id).answer);
+                self.go_on_waiting(app, id, object.number, access, ticks);
+            }
+            Op::Do(object, access) => {
+                self.count_passed_on(id, object.number, access);
+                let access = self.asked(access, self.task(id).answer);
+                self.act_at_once(app, id, object.number, access);
+            }
+            Op::GiveMutex(object) => self.give_back(app, id, object.number),
+            Op::MessagesWaiting(object) => {
+                let (items, _) = self.fill(object.number);
+                self.answer(app, id, Some(items));
+            }
+            Op::SpacesAvailable(object) => {
+                let (_, room) = self.fill(object.number);
+                self.answer(app, id, Some(room));
+            }
+            Op::SetBits(group, mask) => self.set_bits(app, id, group, mask),
+            Op::ClearBits(group, mask) => self.clear_bits(app, id, group, mask),
+            Op::GetBits(group) => self.answer(app, id, Some(self.bits(group))),
+            Op::WaitBits(group, condition, ticks) => {
+                self.wait_for_bits(app, id, group, condition, ticks);
+            }
+            Op::Notify(other, action) => self.call_notify(app, id, other, action),
+            Op::AwaitNotification(wait, ticks) => self.await_notice(app, id, wait, ticks),
+            Op::ClearNotification(what) => self.clear_notice(app, id, what),
+            Op::Suspend(other) => self.call_suspend(app, id, other),
+            Op::Resume(other) => self.call_resume(app, id, other),
+            Op::SuspendAll => self.suspend_all(app, id),
+            Op::ResumeAll => self.resume_all(app, id),
+            Op::EnterCritical => self.enter_critical(app, id),
+            Op::ExitCritical => self.exit_critical(app, id),
+            Op::Value(op) => self.work_with_values(app, id, op),
+            Op::Source(handler, what) => self.act_on_source(app, id, handler, what),
+            Op::NextCommand(queue) => self.next_command(app, id, queue.number),
+            Op::Obey => self.obey(app, id),
+        }
+    }
+
+    fn act_current(&mut self, app: &App, limits: &Limits) {
+        match self.current {
+            None => self.idle(app, limits),
+            Some(id) => {
+                if let Some(op) = app.op(id, self.task(id).op_index) {
+                    self.act_unless_misuse(app, id, op);
+                }
+            }
+        }
+    }
+
+    /// A step of a run under these limits, before which the handlers of these injections come.
+    pub fn step(&mut self, app: &App, limits: &Limits, injections: &[Injection]) {
+        self.come_before_step(app, injections);
+        self.act_current(app, limits);
+        if self.may_switch() && self.current.is_some_and(|id| !self.is_ready(id)) {
+            self.choose();
+        }
+        self.steps = self.steps.wrapping_add(1);
+    }
+
+    fn will_any_wake(&self) -> bool {
+        for number in 0..32 {
+            if self.alarm(TaskId { number }).is_some() {
+                return true;
+            }
+        }
+        false
+    }
+
+    fn is_ended(&self, task: TaskId) -> bool {
+        matches!(self.task(task).status, Status::Ended)
+    }
+
+    /// Whether the run waits for this task's end.
+    fn is_awaited(app: &App, task: TaskId) -> bool {
+        match app.tasks().get(task.number as usize) {
+            None => false,
+            Some(definition) => !definition.is_endless(),
+        }
+    }
+
+    /// Whether all tasks for whose ends the run waits have come to the end of their scripts. Where there is none, no run passes.
+    fn are_all_ended(&self, app: &App) -> bool {
+        let mut is_any_awaited = false;
+        for number in 0..32 {
+            let task = TaskId { number };
+            let is_awaited = Self::is_awaited(app, task);
+            if is_awaited && !self.is_ended(task) {
+                return false;
+            }
+            is_any_awaited |= is_awaited;
+        }
+        is_any_awaited
+    }
+
+    /// Whether an endless task of the file has not come to its end.
+    pub fn is_any_endless_left(&self, app: &App) -> bool {
+        for number in 0..32 {
+            let task = TaskId { number };
+            let is_daemon = app.daemon() == Some(task);
+            if app.is_endless(task) && !is_daemon && !self.is_ended(task) {
+                return true;
+            }
+        }
+        false
+    }
+
+    /// Whether the running task is in the middle of a call: its next phase is Decide, Place, Unlock or Leave.
+    pub fn is_inside_call(&self) -> bool {
+        let phase = match self.current {
+            None => Phase::Start,
+            Some(task) => self.task(task).call.phase,
+        };
+        !matches!(phase, Phase::Start | Phase::Try)
+    }
+
+    pub fn is_locked(&self) -> bool {
+        self.locked.is_some()
+    }
+
+    fn is_stuck(&self, app: &App) -> bool {
+        self.current.is_none() && !self.will_any_wake() && !self.is_interrupt_to_come(app)
+    }
+
+    /// The end of the run before its next step; `None` where it goes on.
+    pub fn end(&self, app: &App, limits: &Limits) -> Option<End> {
+        if self.stopped.is_some() {
+            self.stopped
+        } else if self.are_all_ended(app) {
+            Some(End::Pass)
+        } else if self.elapsed >= limits.ticks {
+            Some(End::Ticks)
+        } else if self.steps >= limits.steps {
+            Some(End::Steps)
+        } else if self.is_stuck(app) {
+            Some(End::Stuck)
+        } else {
+            None
+        }
+    }
+}
