@@ -1,5 +1,5 @@
-//! The kernel as its definitions describe it: one table of tasks, each with its ticket, and one of objects. Every question is a
-//! search of the tables. It is slow, and says plainly what the kernel over lists has to do. So it is what that kernel is compared with.
+//! The reference kernel: the kernel as its definitions describe it, with one table of tasks, each with its ticket, and one of objects.
+//! Every question is a search of the tables. It is slow, and says plainly what the kernel over lists has to do.
 #![tactic(auto)]
 
 use calls::Side;
@@ -20,11 +20,13 @@ mod idle;
 mod misuses;
 mod mutexes;
 mod notifications;
+mod scheduling;
 mod sections;
 mod shared;
 mod sources;
 mod suspension;
 mod tally;
+mod time;
 mod values;
 mod waits_for_bits;
 
@@ -55,7 +57,7 @@ enum Status {
     Waiting(Wait),
     WaitingForBits(BitWait),
     WaitingForNotification(NoticeWait),
-    /// In no list. Where a `delay_until` was cut off, this is the time until which it would have slept.
+    /// In no list. If a `delay_until` was cut off, this is the time until which it would have slept.
     Suspended(Option<u64>),
     Ended,
 }
@@ -105,13 +107,13 @@ pub struct ReferenceKernel {
     current: Option<TaskId>,
     /// Whether a call holds the scheduler.
     is_held: bool,
-    /// How many `suspend_all` are in force, and how many ticks have come since the first of them.
+    /// How many `suspend_all` are active, and how many ticks have come since the first of them.
     suspensions: u32,
     held_ticks: u32,
     /// How many critical sections are open, and which handlers were injected meanwhile and haven't come yet.
     sections: u32,
     pending: [bool; 17],
-    /// What else is kept of each interrupt source: the handlers, and behind them the tick.
+    /// What else is kept of each interrupt source: the handlers, and after them the tick.
     sources: [Source; 17],
     /// The object that a call has locked.
     locked: Option<u8>,
@@ -171,19 +173,6 @@ impl ReferenceKernel {
         kernel
     }
 
-    fn make_all_ready(&mut self, app: &App) {
-        for number in 0..32 {
-            let task = TaskId { number };
-            if let Some(definition) = app.tasks().get(number as usize) {
-                self.tasks[number as usize].base_priority = definition.priority();
-                self.tasks[number as usize].priority = definition.priority();
-            }
-            if app.op_count(task) > 0 {
-                self.make_ready(task);
-            }
-        }
-    }
-
     fn task(&self, task: TaskId) -> Task {
         self.tasks[task.number as usize]
     }
@@ -197,11 +186,6 @@ impl ReferenceKernel {
         self.next_ticket
     }
 
-    /// The printed tick.
-    fn tick_now(&self) -> u32 {
-        (self.time % 4_294_967_296) as u32
-    }
-
     fn write(&mut self, what: What) {
         let event = Event {
             step: self.steps,
@@ -209,183 +193,6 @@ impl ReferenceKernel {
             what,
         };
         self.is_out_of_memory |= self.events.push(event).is_err();
-    }
-
-    /// The task is Ready, behind all others of its priority.
-    fn make_ready(&mut self, task: TaskId) {
-        let is_suspended = self.is_scheduler_suspended();
-        count_if(&mut self.tally.held_wakes, is_suspended);
-        let status = Status::Ready(self.take_ticket());
-        self.set(
-            task,
-            Task {
-                status,
-                ..self.task(task)
-            },
-        );
-    }
-
-    fn is_ready(&self, task: TaskId) -> bool {
-        matches!(self.task(task).status, Status::Ready(_))
-    }
-
-    /// Whether one of two Ready tasks, by priority and ticket, comes before the other.
-    fn is_before(one: (u8, u64), other: (u8, u64)) -> bool {
-        one.0 > other.0 || (one.0 == other.0 && one.1 < other.1)
-    }
-
-    fn choice(&self) -> Option<TaskId> {
-        let mut best = None;
-        for number in 0..32 {
-            let task = self.task(TaskId { number });
-            let Status::Ready(ticket) = task.status else {
-                continue;
-            };
-            let key = (task.priority, ticket);
-            if best.is_none_or(|(_, other)| Self::is_before(key, other)) {
-                best = Some((number, key));
-            }
-        }
-        let (number, _) = best?;
-        TaskId::new(number)
-    }
-
-    /// Whether anything may switch: neither a call nor a task holds the scheduler.
-    fn may_switch(&self) -> bool {
-        !self.is_held && !self.is_scheduler_suspended() && !self.is_critical()
-    }
-
-    /// The choice runs.
-    fn choose(&mut self) {
-        let choice = self.choice();
-        if choice != self.current {
-            self.current = choice;
-            self.write(What::Run(choice));
-        }
-    }
-
-    /// Whether another task than the running one is Ready and has at least this priority.
-    fn is_any_ready_from(&self, priority: u8) -> bool {
-        for number in 0..32 {
-            let other = TaskId { number };
-            if self.is_ready(other)
-                && Some(other) != self.current
-                && self.task(other).priority >= priority
-            {
-                return true;
-            }
-        }
-        false
-    }
-
-    /// The running task goes behind the others of its priority, and the choice runs.
-    fn yield_now(&mut self) {
-        if let Some(task) = self.current {
-            self.to_back(task);
-        }
-        self.choose();
-    }
-
-    /// The priority of the running task; of idle it is below all others, which count from 1 here.
-    fn rank(&self) -> u8 {
-        match self.current {
-            None => 0,
-            Some(task) => self.task(task).priority.saturating_add(1),
-        }
-    }
-
-    /// A task of higher priority runs, if there is one.
-    fn preempt(&mut self) {
-        if self.is_any_ready_from(self.rank()) {
-            self.yield_now();
-        }
-    }
-
-    /// The end of a tick: equals take turns too.
-    fn slice(&mut self) {
-        if self.is_any_ready_from(self.rank().saturating_sub(1)) {
-            self.yield_now();
-        }
-    }
-
-    /// When a task wakes by itself, if it does, and its ticket.
-    fn alarm(&self, task: TaskId) -> Option<(u64, u64)> {
-        match self.task(task).status {
-            Status::Asleep {
-                wake_time,
-                ticket,
-                ..
-            } => Some((wake_time, ticket)),
-            Status::Waiting(wait) | Status::Awake(wait) => Some((wait.deadline?, wait.ticket)),
-            Status::WaitingForBits(wait) => Some((wait.deadline?, wait.ticket)),
-            Status::WaitingForNotification(wait) => Some((wait.deadline?, wait.ticket)),
-            Status::Ready(_) | Status::Suspended(_) | Status::Ended => None,
-        }
-    }
-
-    /// Of those who wake now, the one that began first.
-    fn first_due(&self) -> Option<TaskId> {
-        let mut best = None;
-        for number in 0..32 {
-            let Some((wake_time, ticket)) = self.alarm(TaskId { number }) else {
-                continue;
-            };
-            if wake_time != self.time {
-                continue;
-            }
-            if best.is_none_or(|(_, other)| ticket < other) {
-                best = Some((number, ticket));
-            }
-        }
-        let (number, _) = best?;
-        TaskId::new(number)
-    }
-
-    fn count_timeout(&mut self, task: TaskId) {
-        let status = self.task(task).status;
-        let is_timeout = matches!(status, Status::Waiting(_));
-        let is_bit_timeout = matches!(status, Status::WaitingForBits(_));
-        count_if(&mut self.tally.timeouts, is_timeout);
-        let is_notice_timeout = matches!(status, Status::WaitingForNotification(_));
-        count_if(&mut self.tally.bit_timeouts, is_bit_timeout);
-        count_if(&mut self.tally.notice_timeouts, is_notice_timeout);
-    }
-
-    /// All who are due wake.
-    fn wake_due(&mut self) {
-        for _ in 0..32 {
-            let Some(task) = self.first_due() else {
-                return;
-            };
-            self.count_timeout(task);
-            self.make_ready(task);
-        }
-    }
-
-    /// Time advances by a tick, and all who are due wake.
-    fn advance(&mut self) {
-        self.time = self.time.wrapping_add(1);
-        self.wake_due();
-    }
-
-    /// The tick interrupt: time advances, or the tick is held; the base interrupts of this tick come; and then there is one
-    /// switch for all of it, if there may be one.
-    fn tick(&mut self, app: &App) {
-        self.elapsed = self.elapsed.wrapping_add(1);
-        if self.is_held || self.is_scheduler_suspended() {
-            self.hold_tick();
-        } else {
-            self.advance();
-        }
-        self.end_tick(app);
-    }
-
-    /// The base interrupts of this tick come, and then there is one switch, if there may be one.
-    fn end_tick(&mut self, app: &App) {
-        self.interrupt(app);
-        if self.may_switch() {
-            self.slice();
-        }
     }
 
     /// The task, which is now as given, goes on at this op.
@@ -427,83 +234,7 @@ impl ReferenceKernel {
         );
     }
 
-    fn to_back(&mut self, id: TaskId) {
-        if self.is_ready(id) {
-            self.make_ready(id);
-        }
-    }
-
-    fn sleep(&mut self, id: TaskId, wake_time: u64, is_periodic: bool) {
-        if self.is_ready(id) {
-            let ticket = self.take_ticket();
-            let status = Status::Asleep {
-                wake_time,
-                ticket,
-                is_periodic,
-            };
-            self.set(
-                id,
-                Task {
-                    status,
-                    ..self.task(id)
-                },
-            );
-        }
-    }
-
-    fn work(&mut self, app: &App, id: TaskId, units: u32) {
-        let task = self.task(id);
-        let used = task.used.wrapping_add(1);
-        if used == units {
-            self.complete(app, id, task);
-        } else {
-            self.set(id, Task { used, ..task });
-        }
-        self.tick(app);
-    }
-
-    fn delay(&mut self, app: &App, id: TaskId, ticks: u32) {
-        self.answer(app, id, Some(0));
-        if ticks == 0 {
-            self.yield_now();
-        } else {
-            self.sleep(id, self.time.wrapping_add(ticks as u64), false);
-        }
-    }
-
-    fn delay_until(&mut self, app: &App, id: TaskId, ticks: u32) {
-        let wake_time = self.task(id).previous_wake.wrapping_add(ticks as u64);
-        let sleeps = wake_time > self.time;
-        self.answer(app, id, Some(sleeps as u32));
-        self.set(
-            id,
-            Task {
-                previous_wake: wake_time,
-                ..self.task(id)
-            },
-        );
-        if sleeps {
-            self.sleep(id, wake_time, true);
-        }
-    }
-
-    fn stamp(&mut self, app: &App, id: TaskId) {
-        let task = Task {
-            stamp: self.time,
-            ..self.task(id)
-        };
-        count_if(&mut self.tally.stamps, true);
-        self.complete(app, id, task);
-    }
-
-    fn since(&mut self, app: &App, id: TaskId) {
-        let passed = self.time.saturating_sub(self.task(id).stamp);
-        count_if(&mut self.tally.measures, passed > 0);
-        count_if(&mut self.tally.long_measures, passed > 4_294_967_295);
-        self.answer(app, id, Some(passed.min(4_294_967_295) as u32));
-    }
-
-    /// A check fails. The first one that does in a step ends the run behind it.
+    /// A check fails. The first one that does in a step ends the run after it.
     fn fail(&mut self, check: End) {
         let is_later = self.stopped.is_some();
         count_if(&mut self.tally.later_failures, is_later);
@@ -598,15 +329,6 @@ impl ReferenceKernel {
         self.steps = self.steps.wrapping_add(1);
     }
 
-    fn will_any_wake(&self) -> bool {
-        for number in 0..32 {
-            if self.alarm(TaskId { number }).is_some() {
-                return true;
-            }
-        }
-        false
-    }
-
     fn is_ended(&self, task: TaskId) -> bool {
         matches!(self.task(task).status, Status::Ended)
     }
@@ -619,7 +341,7 @@ impl ReferenceKernel {
         }
     }
 
-    /// Whether all tasks for whose ends the run waits have come to the end of their scripts. Where there is none, no run passes.
+    /// Whether all tasks for whose ends the run waits have come to the end of their scripts. If there is none, no run passes.
     fn are_all_ended(&self, app: &App) -> bool {
         let mut is_any_awaited = false;
         for number in 0..32 {
@@ -662,7 +384,7 @@ impl ReferenceKernel {
         self.current.is_none() && !self.will_any_wake() && !self.is_interrupt_to_come(app)
     }
 
-    /// The end of the run before its next step; `None` where it goes on.
+    /// The end of the run before its next step; `None` if it goes on.
     pub fn end(&self, app: &App, limits: &Limits) -> Option<End> {
         if self.stopped.is_some() {
             self.stopped
