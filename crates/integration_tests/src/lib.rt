@@ -12,6 +12,8 @@ mod handler_runs;
 #[cfg(test)]
 mod loading;
 #[cfg(test)]
+mod loading_ops;
+#[cfg(test)]
 mod shelves;
 #[cfg(test)]
 mod sinks;

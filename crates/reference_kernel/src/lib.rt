@@ -1,5 +1,5 @@
-//! The reference kernel: the kernel as its definitions describe it, with one table of tasks, each with its ticket, and one of objects.
-//! Every question is a search of the tables. It is slow, and says plainly what the kernel over lists has to do.
+//! The reference kernel: the kernel as its definitions describe it, with one table of tasks, each with its ticket, and one of
+//! objects. Every question is a search of the tables. It is slow, and says plainly what the kernel over lists has to do.
 #![tactic(auto)]
 
 use calls::Side;
