@@ -280,7 +280,7 @@ fn fail(rt: &impl Abort, alloc: Global, seed: u32, app: &App, points: &[Point], 
     panic!(rt; "seed {seed}, {manner:?}: another report, of points{told} on this file\n{file}");
 }
 
-/// For applications whose tasks crowd about objects or raise handlers, and half as often for those whose tasks go by what was answered,
+/// For applications whose tasks crowd about objects or raise handlers, and half as often for those whose tasks go by last answers,
 /// open critical sections, calculate, or notify each other.
 fn dice_of(seed: u32) -> Dice {
     match seed % 8 {

@@ -30,8 +30,8 @@ pub(crate) struct Planner {
     dice: Dice,
     /// Before how many steps handlers may still come.
     left: u32,
-    /// Handlers come before one in this many steps inside calls, while the scheduler is suspended and while a critical section is open,
-    /// and before one of three times as many others.
+    /// Handlers come before one in this many steps inside calls, while the scheduler is suspended and while a critical section is
+    /// open, and before one of three times as many others.
     rarity: u32,
     /// Whether ticks are among the injections.
     has_ticks: bool,

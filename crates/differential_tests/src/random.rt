@@ -76,8 +76,8 @@ enum Sort {
     Signal,
     /// Tasks and handlers calculate. Handlers are injected in three of four runs.
     Calculation,
-    /// Tasks crowd about objects, wait for bits or for notifications, are suspended, or open critical sections. Ticks and handlers are
-    /// injected in each run.
+    /// Tasks crowd about objects, wait for bits or for notifications, are suspended, or open critical sections. Ticks and handlers
+    /// are injected in each run.
     Tick,
     /// Tasks and handlers arm, disarm and raise handlers. Handlers are injected in each run, and ticks in every other one.
     Device,

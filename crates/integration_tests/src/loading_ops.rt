@@ -98,7 +98,8 @@ fn handlers_that_look_and_tasks_that_measure_time_are_loaded(rt: HostRuntime) {
     has_ops(&rt, &app, &ops);
 }
 
-// A word of the grammar may be the name of a variable. `answer` is the last answer if a value is wanted, and the variable otherwise.
+// A word of the grammar may be the name of a variable. `answer` is the last answer if a value is wanted, and otherwise the
+// variable.
 const VARIABLES: &str = "
 [[queue]]
 name = 'q'

@@ -174,7 +174,8 @@ fn a_row_is_the_same_from_each_stride(rt: HostRuntime) {
     }
 }
 
-// The second comes past the end of the base run, which has seven steps, and before the row's own. What a row costs goes by the first.
+// The second comes past the end of the base run, which has seven steps, and before the row's own. What a row costs goes by the
+// first.
 #[test]
 fn a_row_of_two_injections(rt: HostRuntime) {
     let app = loaded(&rt, rt.alloc(), RECEIVE);

@@ -12,7 +12,7 @@ impl Dice {
         self.theme == Theme::Device && self.roll(2) == 0
     }
 
-    /// Whether a handler is armed at reset, and how many ticks apart it comes at least: where tasks raise handlers some are disarmed,
+    /// Whether a handler is armed at reset, and how many ticks apart it comes at least. If tasks raise handlers, some are disarmed,
     /// and some come a few ticks apart, or as many as may be.
     pub(super) fn arrival(&mut self) -> (bool, u32)
         ensures { result.1 ≤ most_apart }

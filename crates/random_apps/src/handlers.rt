@@ -201,8 +201,8 @@ impl Dice {
         }
     }
 
-    /// Up to five ops of a handler, or eight where it goes by what was answered, notifies or calculates. An op that isn't allowed in its place
-    /// is left out. Then the branches that are open end.
+    /// Up to five ops of a handler, or eight if it goes by last answers, notifies or calculates. An op that isn't allowed in its
+    /// place is left out. Then the branches that are open end.
     fn isr_ops(
         &mut self,
         alloc: Global,

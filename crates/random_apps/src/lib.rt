@@ -75,8 +75,8 @@ enum Theme {
     Signal,
     /// They load and store variables, calculate, and pass on what was answered. So do the handlers.
     Calculation,
-    /// They arm and disarm handlers, raise them, and cancel that. So do the handlers, some of which are disarmed at reset or come only
-    /// so many ticks apart.
+    /// They arm and disarm handlers, raise them, and cancel that. So do the handlers. Some of these are disarmed at reset, or come
+    /// only so many ticks apart.
     Device,
 }
 
@@ -455,9 +455,9 @@ impl Dice {
         Limits::new(ticks, 20 + self.roll(300))
     }
 
-    /// Four tasks, three handlers, two event groups, four variables or more, and up to four objects and four base interrupts, shortly
-    /// before the tick wraps; and as often a daemon as none. Every other one is tickless, and in half of these tasks sleep for long.
-    /// In some of them a few tasks or all are endless. It has no points, which no run depends on.
+    /// Four tasks, three handlers, two event groups, four variables or more, and up to four objects and four base interrupts,
+    /// shortly before the tick wraps; and as often a daemon as none. Every other one is tickless, and in half of these tasks sleep
+    /// for long. In some of them a few tasks or all are endless. It has no points, which no run depends on.
     pub fn app(&mut self, alloc: Global) -> Option<App> {
         let has_daemon = self.roll(2) == 0;
         let tickless = self.roll(2) == 0;

@@ -7,7 +7,7 @@ use super::{Dice, Role, Theme};
 use model::{Condition, GroupId, ObjectKind, Op, TaskId};
 
 impl Dice {
-    /// An op that asks for the time; or, in applications of all sorts and where tasks go by what was answered, one that measures it.
+    /// An op that asks for the time; or one that measures it, in applications of all sorts and in those that go by last answers.
     pub(super) fn clock_op(&mut self, objects: &[ObjectKind]) -> Op
         ensures range { InRange result }
         ensures known { IsKnown objects.now result }

@@ -33,7 +33,7 @@ impl Dice {
         Op::ExitCritical
     }
 
-    /// Asks how many items are in a queue, or for how many more there is room; in place of it a mark, where the object isn't a queue.
+    /// Asks how many items are in a queue, or for how many more there is room. If the object isn't a queue, it is a mark.
     fn look_at(&mut self, objects: &[ObjectKind], object: ObjectId) -> Op
         ensures range { InRange result }
         ensures known { IsKnown objects.now result }

@@ -3,8 +3,8 @@
 use super::{ReferenceKernel, count_if};
 use model::{Access, AnswerCondition, App, End, HandlerDefinition, HandlerId, IsrOp, What};
 
-/// Where a handler goes on that leaves the branch whose first op is this one: behind its `else` or its `end`. Those that open on the
-/// way are passed whole.
+/// The op at which a handler goes on after it has left the branch whose first op is this one: the op after its `else` or its `end`.
+/// Branches that open on the way are passed whole.
 fn behind_branch(ops: &[IsrOp], first: u16) -> u16 {
     let mut opened = 0_u16;
     for index in first..HandlerDefinition::MOST_OPS as u16 {
@@ -28,7 +28,8 @@ impl ReferenceKernel {
         answer
     }
 
-    /// An op of a handler, which reports its answer, if it has one. That is the handler's last answer then, and otherwise the one before.
+    /// An op of a handler, which reports its answer, if it has one. That becomes the handler's last answer; otherwise the one
+    /// before stays.
     fn isr(
         &mut self,
         app: &App,

@@ -33,8 +33,8 @@ fn may_be_held(op: Op) -> bool {
     )
 }
 
-/// Whether an op may be done while a critical section is open: it is one that may be done while the scheduler is suspended, and lets
-/// no tick pass and leaves the scheduler alone.
+/// Whether an op may be done while a critical section is open: it may be done while the scheduler is suspended, lets no tick pass,
+/// and leaves the scheduler alone.
 fn may_be_critical(op: Op) -> bool {
     may_be_held(op) && !matches!(op, Op::Work(_) | Op::SuspendAll | Op::ResumeAll)
 }

@@ -63,8 +63,8 @@ impl ReferenceKernel {
         count_if(&mut self.tally.added_counts, is_counted);
     }
 
-    /// A task is notified: its value changes, and a notification is pending. If it waits for one, it is Ready. Answers 0 if the value
-    /// was to be kept, and 1 otherwise.
+    /// A task is notified: its value changes, and a notification is pending. If it waits for one, it becomes Ready. Returns 0 if
+    /// the value was to be kept, and 1 otherwise.
     pub(super) fn notify(
         &mut self,
         id: TaskId,
@@ -134,7 +134,8 @@ impl ReferenceKernel {
         self.answer(app, id, Some(value));
     }
 
-    /// `notify_wait` at its end: it answers the value of a pending notification, and then clears bits of it. Otherwise it answers `none`.
+    /// `notify_wait` at its end: it returns the value of a pending notification, and then clears bits of it. Otherwise it returns
+    /// `none`.
     fn end_wait_for_pending(&mut self, app: &App, id: TaskId, masks: NotificationMasks) {
         let notice = self.notice(id);
         if !notice.is_pending {
