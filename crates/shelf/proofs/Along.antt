@@ -1,4 +1,4 @@
--- Stops along a base run, and the one before a row.
+-- Checkpoints along a base run, and the one before a row.
 use Rattle.std.proofs.Common.{◌≡◌, ◌+◌, ◌-◌, ◌*◌, ◌/◌, ◌%◌, ◌<◌, ◌≤◌, ℕ, suc, Bool, true, false, List, [], ◌∷◌, ◌++◌, get_or}
 use Rattle.std.proofs.Common.{length, length-append, take, ap, refl, sym, subst, ◌∙◌, arith}
 use Rattle.std.specs.Prelude.{IfSome, if◌then◌else◌, min, nat_le, nat_lt}
@@ -11,24 +11,24 @@ use Rattle.model.specs.Points.{first_step}
 use Rattle.model.specs.Application.{Application, Limits}
 use Rattle.model.specs.Run.{events_after}
 use Rattle.model.proofs.Injected.{begins_with}
-use Rattle.shelf.specs.declared.stops.Stop.{Stop}
+use Rattle.shelf.specs.declared.checkpoints.Checkpoint.{Checkpoint}
 use Rattle.shelf.proofs.Joining.{each_more}
-use Rattle.shelf.specs.Shelves.{IsStop, AreStops, Shelved, IsShelf, cost_of, way_to}
+use Rattle.shelf.specs.Shelves.{IsCheckpoint, AreCheckpoints, Shelved, IsShelf, cost_of, way_to}
 
--- ---- putting stops
+-- ---- putting checkpoints
 
-pub one_more : (app : Application) (limits : Limits) (stride : ℕ) (stops more : List Stop) (stop : Stop)
-    → AreStops app limits stride stops
-    → more ≡ stops ++ stop ∷ [] → IsStop app limits (length stops * stride) stop → AreStops app limits stride more
-one_more app limits stride stops more stop h is last =
-    subst (AreStops app limits stride) (sym is) (each_more (λ n. IsStop app limits (n * stride)) stops stop h last)
+pub one_more : (app : Application) (limits : Limits) (stride : ℕ) (checkpoints more : List Checkpoint) (checkpoint : Checkpoint)
+    → AreCheckpoints app limits stride checkpoints
+    → more ≡ checkpoints ++ checkpoint ∷ [] → IsCheckpoint app limits (length checkpoints * stride) checkpoint → AreCheckpoints app limits stride more
+one_more app limits stride checkpoints more checkpoint h is last =
+    subst (AreCheckpoints app limits stride) (sym is) (each_more (λ n. IsCheckpoint app limits (n * stride)) checkpoints checkpoint h last)
 
--- how many stops there are
-pub put_more : (stops more : List Stop) (stop : Stop) (stride next : ℕ) → more ≡ stops ++ stop ∷ []
-    → next ≡ length stops * stride → next + stride ≡ length more * stride
-put_more stops more stop stride next is e =
-    let one : length more ≡ suc (length stops) = omega (arith, ap length is, length-append stops (stop ∷ [])) in
-    rw one (ap (λ (n : ℕ). n + stride) e ∙ sym (suc-mul (length stops) stride))
+-- how many checkpoints there are
+pub put_more : (checkpoints more : List Checkpoint) (checkpoint : Checkpoint) (stride next : ℕ) → more ≡ checkpoints ++ checkpoint ∷ []
+    → next ≡ length checkpoints * stride → next + stride ≡ length more * stride
+put_more checkpoints more checkpoint stride next is e =
+    let one : length more ≡ suc (length checkpoints) = omega (arith, ap length is, length-append checkpoints (checkpoint ∷ [])) in
+    rw one (ap (λ (n : ℕ). n + stride) e ∙ sym (suc-mul (length checkpoints) stride))
 
 -- ---- the way to a step
 
@@ -44,7 +44,7 @@ few_either_way false a b n l = l
 pub short_way : (stride walked step : ℕ) → way_to stride walked step ≤ step
 short_way stride walked step = few_either_way (nat_le walked step) (step - walked) (step % stride) step (mod-le step stride)
 
--- From reset it begins at the stop before.
+-- From reset it begins at the checkpoint before.
 pub way_from_reset : (stride step : ℕ) → way_to stride 0 step ≡ step % stride
 way_from_reset stride step = either_way (nat_le 0 step) (step - 0) (step % stride) (omega (arith, mod-le step stride))
 
@@ -65,7 +65,7 @@ cost_beyond shelf point l reached steps =
 pub way_is : (stride walked first : ℕ) → walked ≡ 0 → way_to stride walked first ≡ first % stride
 way_is stride walked first none = ap (λ (w : ℕ). way_to stride w first) none ∙ way_from_reset stride first
 
--- ---- the stop before a step
+-- ---- the checkpoint before a step
 
 module _ (app : Application) (shelf : Shelved) (h : IsShelf app shelf) (step : ℕ) (l : step < shelf.base.steps) where
   abbrev number : ℕ
@@ -74,13 +74,13 @@ module _ (app : Application) (shelf : Shelved) (h : IsShelf app shelf) (step : �
   split : step % shelf.stride + number * shelf.stride ≡ step
   split = mod-add-div' step shelf.stride
 
-  stop_below : number < length shelf.stops
-  stop_below = (div-lt_iff_lt-mul h.apart).1 (let enough = h.enough in omega (arith, enough, l))
+  checkpoint_below : number < length shelf.checkpoints
+  checkpoint_below = (div-lt_iff_lt-mul h.apart).1 (let enough = h.enough in omega (arith, enough, l))
 
-  pub stop_is : (d : Stop) → IsStop app shelf.limits (number * shelf.stride) (get_or shelf.stops number d)
-  stop_is d =
-      subst (λ o. IfSome o (IsStop app shelf.limits (number * shelf.stride)))
-      (slice_get-get_or shelf.stops number d stop_below) (h.are_stops number)
+  pub checkpoint_is : (d : Checkpoint) → IsCheckpoint app shelf.limits (number * shelf.stride) (get_or shelf.checkpoints number d)
+  checkpoint_is d =
+      subst (λ o. IfSome o (IsCheckpoint app shelf.limits (number * shelf.stride)))
+      (slice_get-get_or shelf.checkpoints number d checkpoint_below) (h.are_checkpoints number)
 
   -- no more events than the base run has
   pub few_before : length (events_after app shelf.limits [] step) ≤ length shelf.base.events
@@ -97,7 +97,7 @@ module _ (app : Application) (shelf : Shelved) (h : IsShelf app shelf) (step : �
 
 -- ---- the row of a point that is reached
 
--- from a shelf, as it is kept inside, and the stop that is read there
+-- from a shelf, as it is kept inside, and the checkpoint that is read there
 module _ (app : Application) (inside now : Shelved) (same : inside ≡ now) (kept : IsShelf app now)
     (point : List Injection) (reached : first_step point < now.base.steps) where
   h : IsShelf app inside
@@ -106,15 +106,15 @@ module _ (app : Application) (inside now : Shelved) (same : inside ≡ now) (kep
   l : first_step point < inside.base.steps
   l = subst (λ (s : Shelved). first_step point < s.base.steps) (sym same) reached
 
-  pub read_is : (step : ℕ) → step ≡ first_step point → (stop d : Stop) → stop ≡ get_or inside.stops (step / inside.stride) d
-      → IsStop app inside.limits (first_step point / inside.stride * inside.stride) stop
-  read_is step first stop d read =
-      let there : stop ≡ get_or inside.stops (first_step point / inside.stride) d =
-      read ∙ ap (λ (n : ℕ). get_or inside.stops (n / inside.stride) d) first in
-      subst (IsStop app inside.limits (first_step point / inside.stride * inside.stride))
-      (sym there) (stop_is app inside h (first_step point) l d)
+  pub read_is : (step : ℕ) → step ≡ first_step point → (checkpoint d : Checkpoint) → checkpoint ≡ get_or inside.checkpoints (step / inside.stride) d
+      → IsCheckpoint app inside.limits (first_step point / inside.stride * inside.stride) checkpoint
+  read_is step first checkpoint d read =
+      let there : checkpoint ≡ get_or inside.checkpoints (first_step point / inside.stride) d =
+      read ∙ ap (λ (n : ℕ). get_or inside.checkpoints (n / inside.stride) d) first in
+      subst (IsCheckpoint app inside.limits (first_step point / inside.stride * inside.stride))
+      (sym there) (checkpoint_is app inside h (first_step point) l d)
 
-  -- the step, by the stops before it
+  -- the step, by the checkpoints before it
   pub parts_of : first_step point % now.stride + first_step point / inside.stride * inside.stride ≡ first_step point
   parts_of = rw (← ap (λ (s : Shelved). s.stride) same) (split app inside h (first_step point) l)
 

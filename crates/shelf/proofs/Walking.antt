@@ -20,13 +20,13 @@ module _ (app : Application) (inside limits : Limits) (same : inside ≡ limits)
   -- the kernel goes on, and what it reports on the way is counted
   pub is_walk : (old : Walk) → IsWalk app limits old → (new : Machine) (before after : List Event)
       → IsLed app inside old.kernel new before after → IsUnderWay app [] inside new
-      → (told : ℕ) → told ≡ old.told + (length after - length before) → IsWalk app limits (record { kernel = new; told = told })
-  is_walk old is new before after led way told sum =
+      → (count : ℕ) → count ≡ old.before + (length after - length before) → IsWalk app limits (record { kernel = new; before = count })
+  is_walk old is new before after led way count sum =
       let was : IsWalk app inside old = rw same is in
       let more = ap length (led.leads.events [] (past_none app inside old.kernel was.way)) in
       let all = ap length led.kept in
-      let counted = was.told in
-      let long : told ≡ length (events_after app inside [] new.steps) =
+      let counted = was.before in
+      let long : count ≡ length (events_after app inside [] new.steps) =
       omega (
         arith,
         more,
@@ -36,7 +36,7 @@ module _ (app : Application) (inside limits : Limits) (same : inside ≡ limits)
         length-append (events_after app inside [] old.kernel.steps) led.own,
         length-append before led.own,
       ) in
-      rw (← same) (record { way = way; told = long })
+      rw (← same) (record { way = way; before = long })
 
 -- ---- a row whose walk was refused memory
 

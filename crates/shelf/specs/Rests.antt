@@ -4,7 +4,7 @@ use Rattle.model.specs.Application.{Application, Limits}
 use Rattle.model.specs.Run.{Run}
 use Rattle.machine.specs.declared.machine.Machine.{Machine}
 use Rattle.kernel.specs.Rests.{IsRest}
-use Rattle.shelf.specs.declared.stops.Stop.{Stop}
+use Rattle.shelf.specs.declared.checkpoints.Checkpoint.{Checkpoint}
 
 -- Each run that reaches this kernel, and into which nothing is injected from there on, goes on as the base run does after this
 -- many of its events.
@@ -12,7 +12,7 @@ pub record JoinsBase (app : Application) (limits : Limits) (base : Run) (k : Mac
   pub within : before ≤ length base.events
   pub rest : IsRest app limits k (record base { events = drop before base.events })
 
--- It does so at each of these stops, after the events that the base run had reported by then.
-abbrev pub AreRests : Application → Limits → Run → List Stop → Type 0
-AreRests app limits base stops =
-    (number : ℕ) → IfSome (slice_get stops number) (λ (stop : Stop). JoinsBase app limits base stop.kernel stop.before)
+-- It does so at each of these checkpoints, after the events that the base run had reported by then.
+abbrev pub AreRests : Application → Limits → Run → List Checkpoint → Type 0
+AreRests app limits base checkpoints =
+    (number : ℕ) → IfSome (slice_get checkpoints number) (λ (checkpoint : Checkpoint). JoinsBase app limits base checkpoint.kernel checkpoint.before)

@@ -6,40 +6,40 @@ use Rattle.model.specs.Points.{first_step}
 use Rattle.model.specs.Application.{Application, Limits}
 use Rattle.model.specs.Run.{Run, IsRun, events_after}
 use Rattle.machine.specs.Can.{IsUnderWay}
-use Rattle.shelf.specs.declared.stops.Stop.{Stop}
+use Rattle.shelf.specs.declared.checkpoints.Checkpoint.{Checkpoint}
 use Rattle.shelf.specs.Rests.{AreRests}
 
 -- The kernel was so before this step of the base run, which had reported this many events by then.
-pub record IsStop (app : Application) (limits : Limits) (step : ℕ) (stop : Stop) : Type 0 where
-  pub way : IsUnderWay app [] limits stop.kernel
-  pub there : stop.kernel.steps ≡ step
-  pub before : stop.before ≡ length (events_after app limits [] step)
+pub record IsCheckpoint (app : Application) (limits : Limits) (step : ℕ) (checkpoint : Checkpoint) : Type 0 where
+  pub way : IsUnderWay app [] limits checkpoint.kernel
+  pub there : checkpoint.kernel.steps ≡ step
+  pub before : checkpoint.before ≡ length (events_after app limits [] step)
 
--- These are the stops before steps 0, stride, 2 stride and so on.
-abbrev pub AreStops : Application → Limits → (stride : ℕ) → List Stop → Type 0
-AreStops app limits stride stops = (number : ℕ) → IfSome (slice_get stops number) (IsStop app limits (number * stride))
+-- These are the checkpoints before steps 0, stride, 2 stride and so on.
+abbrev pub AreCheckpoints : Application → Limits → (stride : ℕ) → List Checkpoint → Type 0
+AreCheckpoints app limits stride checkpoints = (number : ℕ) → IfSome (slice_get checkpoints number) (IsCheckpoint app limits (number * stride))
 
--- a base run, its limits, and the stops along it
+-- a base run, its limits, and the checkpoints along it
 pub record Shelved : Type 0 where
   pub base : Run
   pub limits : Limits
   pub stride : ℕ
-  pub stops : List Stop
+  pub checkpoints : List Checkpoint
 
--- It is the application's base run, with stops as far as it goes, at which other runs join it.
+-- It is the application's base run, with checkpoints as far as it goes, at which other runs join it.
 pub record IsShelf (app : Application) (shelf : Shelved) : Type 0 where
   pub is_base : IsRun app [] shelf.limits shelf.base
   pub apart : 0 < shelf.stride
-  pub are_stops : AreStops app shelf.limits shelf.stride shelf.stops
-  pub rests : AreRests app shelf.limits shelf.base shelf.stops
-  pub enough : shelf.base.steps ≤ length shelf.stops * shelf.stride
+  pub are_checkpoints : AreCheckpoints app shelf.limits shelf.stride shelf.checkpoints
+  pub rests : AreRests app shelf.limits shelf.base shelf.checkpoints
+  pub enough : shelf.base.steps ≤ length shelf.checkpoints * shelf.stride
 
--- How many steps of the base run lead to this one: from where a walk is, or from the stop before, whichever is nearer; from the
--- stop if the walk is past it.
+-- How many steps of the base run lead to this one: from where a walk is, or from the checkpoint before, whichever is nearer; from the
+-- checkpoint if the walk is past it.
 abbrev pub way_to : (stride walked step : ℕ) → ℕ
 way_to stride walked step = if nat_le walked step then min (step - walked) (step % stride) else step % stride
 
--- How many steps are done for the row of a point by itself, which ends after this many: those from the stop before its first
+-- How many steps are done for the row of a point by itself, which ends after this many: those from the checkpoint before its first
 -- injection on; if that can't come there, those up to it; none if the base run doesn't get there.
 abbrev pub cost_of : Shelved → List Injection → (reached : Bool) → ℕ → ℕ
 cost_of shelf point reached steps =

@@ -8,4 +8,4 @@ use Rattle.shelf.specs.declared.walk.Walk.{Walk}
 -- The kernel is on its way along the base run, which has reported this many events before it.
 pub record IsWalk (app : Application) (limits : Limits) (walk : Walk) : Type 0 where
   pub way : IsUnderWay app [] limits walk.kernel
-  pub told : walk.told ≡ length (events_after app limits [] walk.kernel.steps)
+  pub before : walk.before ≡ length (events_after app limits [] walk.kernel.steps)

@@ -1,10 +1,10 @@
 //! The base run of an application with snapshots of the kernel along it, and rows that begin from it.
 #![tactic(auto)]
 
+mod checkpoints;
 mod row;
 mod shelf;
 mod simulation;
-mod stops;
 mod walk;
 
 pub use row::{Row, RowBeginning};

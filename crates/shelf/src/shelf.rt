@@ -1,4 +1,4 @@
-//! A base run with its stops, and rows that begin from it.
+//! A base run with its checkpoints, and rows that begin from it.
 ghost use Rattle.std.specs.Prelude.{◌≡◌, nat_lt, ◌<◌, ◌≤◌, ◌+◌, ◌-◌, ◌%◌, ◌^◌, ◌++◌, Bool, false, true, [], min, length, take, None, IfOk};
 ghost use Rattle.std.specs.Prelude.{IfSome, OnErr, OnOk};
 ghost use Rattle.model.specs.Points.{first_step, last_step};
@@ -13,9 +13,9 @@ ghost use Rattle.shelf.specs.Rests.{JoinsBase};
 ghost use Rattle.shelf.specs.Shelves.{IsShelf, cost_of, way_to};
 ghost use Rattle.shelf.specs.Walks.{IsWalk};
 
+use crate::checkpoints::{Checkpoint, put_checkpoints};
 use crate::row::{Row, RowBeginning};
 use crate::simulation::Simulation;
-use crate::stops::{Stop, put_stops};
 use crate::walk::Walk;
 use kernel::{Kernel, begin_row};
 use model::{App, Event, Limits, Memory, Meter, Point, Run};
@@ -29,16 +29,16 @@ pub struct Shelf {
     base: Run,
     limits: Limits,
     stride: u32,
-    stops: Vec<Stop>,
+    checkpoints: Vec<Checkpoint>,
 }
 
-// Clauses see the base run, its limits, and the stops along it.
+// Clauses see the base run, its limits, and the checkpoints along it.
 impl Model for Shelf {
     ghost use Rattle.shelf.specs.Shelves.{Shelved};
 
     ghost Value = { Shelved };
 
-    ghost view = { λ s. record { base = s.base; limits = s.limits; stride = s.stride; stops = s.stops.items } };
+    ghost view = { λ s. record { base = s.base; limits = s.limits; stride = s.stride; checkpoints = s.checkpoints.items } };
 }
 
 impl Shelf {
@@ -55,13 +55,13 @@ impl Shelf {
         ensures stride { IfOk result (λ shelf. shelf.stride ≡ stride) }
     {
         limits.well_formed();
-        let mut stops = Vec::new(alloc);
-        let base = put_stops(alloc, app, &limits, stride, &mut stops)?;
+        let mut checkpoints = Vec::new(alloc);
+        let base = put_checkpoints(alloc, app, &limits, stride, &mut checkpoints)?;
         Ok(Shelf {
             base,
             limits,
             stride,
-            stops,
+            checkpoints,
         })
     }
 
@@ -79,7 +79,7 @@ impl Shelf {
         self.limits
     }
 
-    /// How many steps are between two stops: 1 to 65,536.
+    /// How many steps are between two checkpoints: 1 to 65,536.
     pub fn stride(&self) -> u32
         ensures { result ≡ self.now.stride }
     {
@@ -107,7 +107,7 @@ impl Shelf {
         self.base.events.len()
     }
 
-    /// How many events the base run had reported at the stop where this kernel is, of this hint, if
+    /// How many events the base run had reported at the checkpoint where this kernel is, of this hint, if
     /// it is found to be at one. Each run that reaches this kernel, and into which nothing is
     /// injected from there on, goes on as the base run does after these.
     pub fn known(&self, kernel: &Kernel, hint: u64) -> Option<usize>
@@ -115,29 +115,31 @@ impl Shelf {
         ensures joins { IfSome result (λ before. (app : Application) → IsShelf app self.now
             → JoinsBase app self.now.limits self.now.base kernel.now before) }
     {
-        let stop = self.stops.get((kernel.steps() / self.stride) as usize)?;
-        if stop.hint == hint && kernel.is_at(&stop.kernel) {
-            Some(stop.before)
+        let checkpoint = self
+            .checkpoints
+            .get((kernel.steps() / self.stride) as usize)?;
+        if checkpoint.hint == hint && kernel.is_at(&checkpoint.kernel) {
+            Some(checkpoint.before)
         } else {
             None
         }
     }
 
-    /// Makes the kernel that of the stop before the first injection of a point that the base run
+    /// Makes the kernel that of the checkpoint before the first injection of a point that the base run
     /// reaches, and returns how many events the base run had reported by then.
-    fn go_to_stop(&self, app: &App, point: &Point, kernel: &mut Kernel) -> usize
+    fn go_to_checkpoint(&self, app: &App, point: &Point, kernel: &mut Kernel) -> usize
         requires shelf { IsShelf app.now self.now }
         requires reached { first_step point.now < self.now.base.steps }
         ensures way { IsUnderWay app.now [] self.now.limits kernel.new }
         ensures there { kernel.new.steps + first_step point.now % self.now.stride ≡ first_step point.now }
-        ensures told { result ≡ length (events_after app.now self.now.limits [] kernel.new.steps) }
+        ensures before { result ≡ length (events_after app.now self.now.limits [] kernel.new.steps) }
     {
-        let stop = &self.stops[(point.first_step() / self.stride) as usize];
-        kernel.restore(&stop.kernel);
-        stop.before
+        let checkpoint = &self.checkpoints[(point.first_step() / self.stride) as usize];
+        kernel.restore(&checkpoint.kernel);
+        checkpoint.before
     }
 
-    // Brings a walk to the stop before the first injection of a point that the base run reaches, if that is nearer
+    // Brings a walk to the checkpoint before the first injection of a point that the base run reaches, if that is nearer
     // than the walk, or the walk is past the injection.
     fn come_near(&self, app: &App, point: &Point, walk: &mut Walk)
         requires shelf { IsShelf app.now self.now }
@@ -150,12 +152,12 @@ impl Shelf {
         let first = point.first_step();
         let steps = walk.kernel.steps();
         if first < steps || first % self.stride < first - steps {
-            walk.told = self.go_to_stop(app, point, &mut walk.kernel);
+            walk.before = self.go_to_checkpoint(app, point, &mut walk.kernel);
         }
     }
 
     /// Goes along the base run to the first injection of a point, and returns whether that can come there: then the
-    /// point is reached. The walk goes from where it is, or from the nearest stop before the injection, whichever is
+    /// point is reached. The walk goes from where it is, or from the nearest checkpoint before the injection, whichever is
     /// nearer. So most points that come in order take few steps that aren't their rows' own. What the base run
     /// reports on the way leaves the trail. The meter, which is below 2^62, rises by the steps on the way. The
     /// simulation's own kernel stays as it is.
@@ -190,10 +192,10 @@ impl Shelf {
         self.come_near(app, point, walk);
         // The base run has no more events than fit, so the sum below does.
         let _ = self.count_events();
-        let before = simulation.trail.len();
+        let kept = simulation.trail.len();
         walk.go_to(app, point.first_step(), &self.limits, simulation)?;
-        walk.told += simulation.trail.len() - before;
-        simulation.trail.truncate(before);
+        walk.before += simulation.trail.len() - kept;
+        simulation.trail.truncate(kept);
         Ok(walk.can_come(point))
     }
 
@@ -246,7 +248,7 @@ impl Shelf {
             &mut simulation.trail,
         )?;
         Ok(RowBeginning {
-            before: walk.told,
+            before: walk.before,
             end,
         })
     }
@@ -366,7 +368,7 @@ impl Shelf {
     /// The row of a point: the run with all its injections if the base run gets beyond the step of the first and that
     /// can come there, otherwise the base run.
     ///
-    /// The meter, which is below 2^62, rises by the steps from the nearest stop before the first injection to the
+    /// The meter, which is below 2^62, rises by the steps from the nearest checkpoint before the first injection to the
     /// row's end. If the point isn't reached, it rises by those to the injection, if the base run gets there, and
     /// otherwise by none.
     ///

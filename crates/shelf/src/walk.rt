@@ -15,12 +15,12 @@ use kernel::{Kernel, go_far};
 use model::{App, End, Limits, Memory, Point};
 
 /// A kernel that goes along the base run, from the first injection of one point to that of the
-/// next, and how many events that run has reported before it. If points come in order, it does each
+/// next, and how many events that run has reported by then. If points come in order, it does each
 /// step of the base run once for all of them.
 #[derive(Drop)]
 pub struct Walk {
     pub(crate) kernel: Kernel,
-    pub(crate) told: usize,
+    pub(crate) before: usize,
 }
 
 impl Walk {
@@ -31,7 +31,7 @@ impl Walk {
     {
         Walk {
             kernel: Kernel::boot(app),
-            told: 0,
+            before: 0,
         }
     }
 
@@ -58,7 +58,7 @@ impl Walk {
         requires ahead { self.old.kernel.steps ≤ step }
         requires reached { (n : ℕ) → n ≤ step → end_of app.now limits.now (state_after app.now limits.now [] n) ≡ None }
         requires meter { simulation.old.meter < 2 ^ 62 + self.old.kernel.steps }
-        ensures told { self.new.told ≡ self.old.told }
+        ensures before { self.new.before ≡ self.old.before }
         ensures kernel { simulation.new.kernel ≡ simulation.old.kernel }
         ensures way { OnOk result (IsUnderWay app.now [] limits.now self.new.kernel) }
         ensures there { OnOk result (self.new.kernel.steps ≡ step) }

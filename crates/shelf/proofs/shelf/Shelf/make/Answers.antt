@@ -6,7 +6,7 @@ returns-clause-shelf c =
     record {
       is_base = e.base;
       apart = c.requires.apart;
-      are_stops = e.stops;
+      are_checkpoints = e.checkpoints;
       rests = e.rests;
       enough = e.enough;
     }

@@ -13,13 +13,13 @@ overflow_add-walk c =
     is_walk c.args.app.now c.self.inside.limits c.args.self.now.limits (ap (λ (s : Shelved). s.limits) c.self.view_is)
     c.come_near.new.walk c.come_near.ensures.walk c.go_to.new.self.kernel (all_of c.args.simulation.now.trail)
     (all_of c.go_to.new.simulation.trail)
-    c.in_ok-go_to.ensures.led c.in_ok-go_to.ensures.way (c.go_to.new.self.told + (c.len.result - c.len-before.result))
-    (rw (c.in_ok-go_to.ensures.told, c.len.ensures, c.len-before.ensures) refl) in
-    let told =
-    subst (λ (n : ℕ). c.go_to.new.self.told + (c.len.result - c.len-before.result)
+    c.in_ok-go_to.ensures.led c.in_ok-go_to.ensures.way (c.go_to.new.self.before + (c.len.result - c.len-kept.result))
+    (rw (c.in_ok-go_to.ensures.before, c.len.ensures, c.len-kept.ensures) refl) in
+    let counted =
+    subst (λ (n : ℕ). c.go_to.new.self.before + (c.len.result - c.len-kept.result)
     ≡ length (events_after c.args.app.now c.args.self.now.limits [] n))
-    there on.told in
+    there on.before in
     let few = shares_few c.args.app.now _ c.args.self.now c.self.view_is c.requires.shelf c.args.point.now c.requires.reached in
     let all = c.count_events.ensures in
     let fits = c.count_events.type_inv in
-    omega (arith, told, few, all, fits)
+    omega (arith, counted, few, all, fits)

@@ -8,5 +8,5 @@ pub returns-in_err-ending-clause-memory : goal.returns-in_err-ending-clause-memo
 returns-in_err-ending-clause-memory c =
     let some = c.in_err-ending.ensures.memory in
     let more = no_fewer c.args.app.now c.args.limits.now [] c.go_far.new.kernel.steps c.args.step c.in_err-ending.ensures.far in
-    let told : 0 < length (events_after c.args.app.now c.args.limits.now [] c.args.step) = omega (arith, some, more) in
-    on_err c.from_residual.result told
+    let reports : 0 < length (events_after c.args.app.now c.args.limits.now [] c.args.step) = omega (arith, some, more) in
+    on_err c.from_residual.result reports

@@ -1,7 +1,7 @@
 //! The kernel as it was along the base run.
 ghost use Rattle.std.specs.Prelude.{◌<◌, ◌≤◌, ◌*◌, ◌≡◌, [], length, IfOk, OnOk};
 ghost use Rattle.model.specs.Run.{IsRun};
-ghost use Rattle.shelf.specs.Shelves.{AreStops};
+ghost use Rattle.shelf.specs.Shelves.{AreCheckpoints};
 ghost use Rattle.shelf.specs.Rests.{AreRests};
 
 use kernel::{Kernel, Snapshot, StepLog, Trail, go_far};
@@ -10,7 +10,7 @@ use std::alloc::Global;
 
 /// The kernel as it was before a step of the base run.
 #[derive(Drop)]
-pub(crate) struct Stop {
+pub(crate) struct Checkpoint {
     pub(crate) kernel: Snapshot,
     pub(crate) hint: u64,
     /// How many events the run had reported by then.
@@ -18,20 +18,20 @@ pub(crate) struct Stop {
 }
 
 /// Runs the base run from reset to its end, and keeps the kernel as it is before steps 0, `stride`, 2 `stride` and so on.
-pub(crate) fn put_stops(
+pub(crate) fn put_checkpoints(
     alloc: Global,
     app: &App,
     limits: &Limits,
     stride: u32,
-    stops: &mut Vec<Stop>,
+    checkpoints: &mut Vec<Checkpoint>,
 ) -> Result<Run, Memory>
-    requires none_put { stops.old.items ≡ [] }
+    requires none_put { checkpoints.old.items ≡ [] }
     requires apart { 0 < stride }
     requires near { stride ≤ 65536 }
     ensures base { IfOk result (λ base. IsRun app.now [] limits.now base) }
-    ensures stops { OnOk result (AreStops app.now limits.now stride stops.new.items) }
-    ensures rests { IfOk result (λ base. AreRests app.now limits.now base stops.new.items) }
-    ensures enough { IfOk result (λ base. base.steps ≤ length stops.new.items * stride) }
+    ensures checkpoints { OnOk result (AreCheckpoints app.now limits.now stride checkpoints.new.items) }
+    ensures rests { IfOk result (λ base. AreRests app.now limits.now base checkpoints.new.items) }
+    ensures enough { IfOk result (λ base. base.steps ≤ length checkpoints.new.items * stride) }
 {
     app.well_formed();
     limits.well_formed();
@@ -40,7 +40,7 @@ pub(crate) fn put_stops(
     let mut meter = Meter::new();
     let mut log = StepLog::new();
     let mut next = 0;
-    'stops: loop {
+    'checkpoints: loop {
         let ending = go_far(
             &mut kernel,
             app,
@@ -59,7 +59,7 @@ pub(crate) fn put_stops(
                 end: ending.end,
             });
         }
-        stops.push(Stop {
+        checkpoints.push(Checkpoint {
             kernel: kernel.snapshot(alloc)?,
             hint: kernel.hint(app),
             before: trail.len(),

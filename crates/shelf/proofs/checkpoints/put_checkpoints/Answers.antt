@@ -8,8 +8,8 @@ use Rattle.kernel.specs.Leads.{IsEnd}
 use Rattle.kernel.specs.declared.rests.RestEnding.{RestEnding}
 use Rattle.kernel.proofs.Running.{steps_below}
 use Rattle.shelf.proofs.Along.{one_more, put_more}
-use Rattle.shelf.proofs.Joining.{all_join, all_on, base_is, put_behind, told_on}
-use Rattle.shelf.proofs.stops.put_stops.Goals as goal
+use Rattle.shelf.proofs.Joining.{all_join, all_on, base_is, put_behind, events_on}
+use Rattle.shelf.proofs.checkpoints.put_checkpoints.Goals as goal
 
 pub go_far-requires-clause-past : goal.go_far-requires-clause-past
 go_far-requires-clause-past c = λ n from. refl
@@ -21,8 +21,8 @@ returns-in-Some-clause-base c =
     c.in-Some.is c.in_ok-ending.ensures.end in
     base_is c.args.app.now c.args.limits.now c.go_far.new.kernel c.in-Some.ending end
     (all_of c.go_far.new.trail) c.into_events.result.items c.into_events.ensures c.go_far.ensures.way
-    (told_on c.args.app.now c.args.limits.now c.stops.kernel c.go_far.new.kernel (all_of c.stops.trail)
-    (all_of c.go_far.new.trail) c.in_ok-ending.ensures.led c.stops.invariant.way c.stops.invariant.events)
+    (events_on c.args.app.now c.args.limits.now c.checkpoints.kernel c.go_far.new.kernel (all_of c.checkpoints.trail)
+    (all_of c.go_far.new.trail) c.in_ok-ending.ensures.led c.checkpoints.invariant.way c.checkpoints.invariant.events)
 
 pub returns-in-Some-clause-rests : goal.returns-in-Some-clause-rests
 returns-in-Some-clause-rests c =
@@ -30,9 +30,9 @@ returns-in-Some-clause-rests c =
     subst (λ (e : Option RestEnding). IfSome e (IsEnd c.args.app.now c.args.limits.now c.go_far.new.kernel))
     c.in-Some.is c.in_ok-ending.ensures.end in
     all_join c.args.app.now c.args.limits.now c.go_far.new.kernel c.in-Some.ending end
-    (all_of c.go_far.new.trail) c.into_events.result.items c.into_events.ensures c.stops.stops.items
-    (all_on c.args.app.now c.args.limits.now (all_of c.stops.trail) (all_of c.go_far.new.trail) c.stops.kernel
-    c.go_far.new.kernel c.in_ok-ending.ensures.led c.stops.stops.items c.stops.invariant.behind)
+    (all_of c.go_far.new.trail) c.into_events.result.items c.into_events.ensures c.checkpoints.checkpoints.items
+    (all_on c.args.app.now c.args.limits.now (all_of c.checkpoints.trail) (all_of c.go_far.new.trail) c.checkpoints.kernel
+    c.go_far.new.kernel c.in_ok-ending.ensures.led c.checkpoints.checkpoints.items c.checkpoints.invariant.behind)
 
 pub returns-in-Some-clause-enough : goal.returns-in-Some-clause-enough
 returns-in-Some-clause-enough c =
@@ -41,11 +41,11 @@ returns-in-Some-clause-enough c =
     c.in-Some.is c.in_ok-ending.ensures.end in
     let here = end.here in
     let far = c.go_far.ensures.far in
-    let next = c.stops.invariant.next in
+    let next = c.checkpoints.invariant.next in
     omega (arith, here, far, next)
 
-pub stops-smaller : goal.stops-smaller
-stops-smaller c =
+pub checkpoints-smaller : goal.checkpoints-smaller
+checkpoints-smaller c =
     let there = c.in_ok-ending.ensures.there c.in_default.is in
     let on : end_of c.args.app.now c.args.limits.now (state_after c.args.app.now c.args.limits.now [] c.go_far.new.kernel.steps)
     ≡ None =
@@ -57,8 +57,8 @@ stops-smaller c =
     let apart = c.requires.apart in
     omega (arith, below, there, apart)
 
-pub stops-preserved : goal.stops-preserved
-stops-preserved c =
+pub checkpoints-preserved : goal.checkpoints-preserved
+checkpoints-preserved c =
     let there = c.in_ok-ending.ensures.there c.in_default.is in
     let on : end_of c.args.app.now c.args.limits.now (state_after c.args.app.now c.args.limits.now [] c.go_far.new.kernel.steps)
     ≡ None =
@@ -67,33 +67,33 @@ stops-preserved c =
     let way = c.go_far.ensures.way in
     let below =
     steps_below c.args.app.now c.well_formed-2.ensures [] c.args.limits.now c.well_formed-3.ensures c.go_far.new.kernel way on in
-    let put = there ∙ c.stops.invariant.next in
+    let put = there ∙ c.checkpoints.invariant.next in
     let events =
-    told_on c.args.app.now c.args.limits.now c.stops.kernel c.go_far.new.kernel (all_of c.stops.trail)
-    (all_of c.go_far.new.trail) c.in_ok-ending.ensures.led c.stops.invariant.way c.stops.invariant.events in
+    events_on c.args.app.now c.args.limits.now c.checkpoints.kernel c.go_far.new.kernel (all_of c.checkpoints.trail)
+    (all_of c.go_far.new.trail) c.in_ok-ending.ensures.led c.checkpoints.invariant.way c.checkpoints.invariant.events in
     let metered = c.go_far.ensures.meter in
-    let meter = c.stops.invariant.meter in
-    let low = c.stops.invariant.low in
+    let meter = c.checkpoints.invariant.meter in
+    let low = c.checkpoints.invariant.low in
     record {
       way = way;
       far = omega (arith, there);
       events = events;
-      stops =
-          one_more c.args.app.now c.args.limits.now c.args.stride c.stops.stops.items
-          c.push.new.self.items _ c.stops.invariant.stops c.in_ok-push.ensures.items (record {
+      checkpoints =
+          one_more c.args.app.now c.args.limits.now c.args.stride c.checkpoints.checkpoints.items
+          c.push.new.self.items _ c.checkpoints.invariant.checkpoints c.in_ok-push.ensures.items (record {
             way = subst (IsUnderWay c.args.app.now [] c.args.limits.now) (sym c.in_ok-snapshot.ensures) way;
             there = ap (λ (k : Machine). k.steps) c.in_ok-snapshot.ensures ∙ put;
             before =
                 c.len.ensures ∙ ap length events ∙ ap (λ (n : ℕ). length (events_after c.args.app.now c.args.limits.now [] n)) put;
           });
       behind =
-          put_behind c.args.app.now c.args.limits.now c.go_far.new.kernel (all_of c.go_far.new.trail) c.stops.stops.items
+          put_behind c.args.app.now c.args.limits.now c.go_far.new.kernel (all_of c.go_far.new.trail) c.checkpoints.checkpoints.items
           c.push.new.self.items _ c.in_ok-push.ensures.items c.in_ok-snapshot.ensures c.len.ensures
-          (all_on c.args.app.now c.args.limits.now (all_of c.stops.trail) (all_of c.go_far.new.trail) c.stops.kernel
-          c.go_far.new.kernel c.in_ok-ending.ensures.led c.stops.stops.items c.stops.invariant.behind);
+          (all_on c.args.app.now c.args.limits.now (all_of c.checkpoints.trail) (all_of c.go_far.new.trail) c.checkpoints.kernel
+          c.go_far.new.kernel c.in_ok-ending.ensures.led c.checkpoints.checkpoints.items c.checkpoints.invariant.behind);
       next =
-          put_more c.stops.stops.items c.push.new.self.items _ c.args.stride
-          c.stops.next c.in_ok-push.ensures.items c.stops.invariant.next;
+          put_more c.checkpoints.checkpoints.items c.push.new.self.items _ c.args.stride
+          c.checkpoints.next c.in_ok-push.ensures.items c.checkpoints.invariant.next;
       meter = omega (arith, metered, meter);
       low = omega (arith, below, there);
     }
