@@ -24,15 +24,15 @@ use Rattle.kernel.proofs.Leading.{leads_here, leads_then, rest_before}
 use Rattle.deal.specs.Tallies.{Tallied}
 use Rattle.campaign.specs.declared.meeting.ahead.Ahead.{Ahead}
 use Rattle.rows.specs.declared.link.Link.{Link}
-use Rattle.rows.specs.declared.link.Link.TheVariants as link
-use Rattle.campaign.specs.declared.meeting.mark.Mark.{Mark}
-use Rattle.campaign.specs.declared.meeting.mark.Passed.{Passed}
+use Rattle.rows.specs.declared.link.Link.TheVariants as links
+use Rattle.campaign.specs.declared.meeting.visited_state.VisitedState.{VisitedState}
+use Rattle.campaign.specs.declared.meeting.visited_state.Passed.{Passed}
 use Rattle.rows.specs.declared.rows.KeptRow.{KeptRow}
-use Rattle.rows.specs.Links.{Store, AreLegs, Grows, Tells}
-use Rattle.campaign.specs.Marks.{rest_from, AreBehind, AreMarked, ArePut, IsBehind, IsPutAt, IsRestAt, Knows}
+use Rattle.rows.specs.Links.{Store, AreLegs, Grows, LinksTo}
+use Rattle.campaign.specs.Visited.{rest_from, AreBehind, AreVisited, ArePut, IsBehind, IsPutAt, IsRestAt, Knows}
 use Rattle.campaign.specs.Working.{GainsRows, IsPassed, IsRestIn, IsRestOf}
 use Rattle.campaign.proofs.Keeping.{known_more}
-use Rattle.rows.proofs.Linked.{closed_tells, still_tells, told_no_more}
+use Rattle.rows.proofs.Linked.{closed_links_to, still_links_to, links_to_nothing}
 
 -- behind the last injection nothing is injected
 pub none_from : (point : List Injection) → IsPoint point → (k : Machine)
@@ -43,30 +43,30 @@ pub all_more : {X : Type 0} (P : X → Type 0) (xs : List X) (x : X) → AllByRe
 all_more P [] x all is = (is, tt)
 all_more P (y ∷ xs) x all is = (all.0, all_more P xs x all.1 is)
 
--- What holds of each mark holds of the one at a place.
+-- What holds of each visited state holds of the one at a place.
 pub at_place : {X : Type 0} (P : X → Type 0) (xs : List X) (place : ℕ) (d : X) → AllByRecursion P xs → place < length xs
     → P (get_or xs place d)
 at_place P [] place d all below = absurd (omega arith)
 at_place P (x ∷ xs) zero d all below = all.0
 at_place P (x ∷ xs) (suc place) d all below = at_place P xs place d all.1 (omega arith)
 
--- A row that comes to a kernel which the one of a mark is found to be goes on as the mark says.
-pub rest_found : (marks : List Mark) (place : ℕ) (m : Mark) (k : Machine) → place < length marks → m ≡ get_or marks place m
-    → k.steps ≡ m.kernel.value.steps → ((s : State) → Stands k s → Stands m.kernel.value s) → IsRestAt marks k m.rest
-rest_found marks place m k below found steps alike app limits view base store marked =
-    let there : IsRestIn app limits view base store m.kernel.value m.rest =
-    subst (λ (x : Mark). IsRestIn app limits view base store x.kernel.value x.rest) (sym found)
-    (at_place (λ (x : Mark). IsRestIn app limits view base store x.kernel.value x.rest) marks place m marked below) in
+-- A row that reaches a kernel which a visited state is found to be goes on as that state says.
+pub rest_found : (visited : List VisitedState) (place : ℕ) (v : VisitedState) (k : Machine) → place < length visited → v ≡ get_or visited place v
+    → k.steps ≡ v.kernel.value.steps → ((s : State) → Stands k s → Stands v.kernel.value s) → IsRestAt visited k v.rest
+rest_found visited place v k below found steps alike app limits view base store are_visited =
+    let there : IsRestIn app limits view base store v.kernel.value v.rest =
+    subst (λ (x : VisitedState). IsRestIn app limits view base store x.kernel.value x.rest) (sym found)
+    (at_place (λ (x : VisitedState). IsRestIn app limits view base store x.kernel.value x.rest) visited place v are_visited below) in
     record {
       events = there.events;
-      told = there.told;
+      linked = there.linked;
       is_rest = rest_alike app limits k m.kernel.value _ steps alike there.is_rest;
     }
 
 -- ---- kernels on the way
 
 module _ (app : Application) (limits : Limits) where
-  -- a kernel is behind itself, where nothing is told yet
+  -- a kernel is behind itself, before anything more is reported
   pub behind_here : (trail : List Event) (p : Passed) → p.from ≡ length trail → IsBehind app limits trail p.kernel.value p
   behind_here trail p at =
       let none : drop p.from trail ≡ [] = ap (λ (n : ℕ). drop n trail) at ∙ drop-length trail in
@@ -87,42 +87,42 @@ module _ (app : Application) (limits : Limits) where
       )
 
 module _ (app : Application) (limits : Limits) (view : View) (base : Run) where
-  -- ---- marks
+  -- ---- visited states
 
-  -- marks stay right when the store becomes more
-  pub still_marked : (store new : Store) → AreLegs base.events store → Grows store new → (marks : List Mark)
-      → AreMarked app limits view base store marks → AreMarked app limits view base new marks
-  still_marked store new legs grown [] are = tt
-  still_marked store new legs grown (mark ∷ marks) are = (
+  -- they stay right when the store becomes more
+  pub still_visited : (store new : Store) → AreLegs base.events store → Grows store new → (visited : List VisitedState)
+      → AreVisited app limits view base store visited → AreVisited app limits view base new visited
+  still_visited store new legs grown [] are = tt
+  still_visited store new legs grown (v ∷ visited) are = (
     record {
       events = are.0.events;
-      told = λ shown. still_tells base.events store legs new grown mark.rest.told are.0.events (are.0.told shown);
+      linked = λ shown. still_links_to base.events store legs new grown v.rest.link are.0.events (are.0.linked shown);
       is_rest = are.0.is_rest;
     },
-    still_marked store new legs grown marks are.1,
+    still_visited store new legs grown visited are.1,
   )
 
   -- what is known stays known, and so is what was gained
-  pub knows_more : (points : List (List Injection)) (a b : List KeptRow) (t u : Store) (x y : Tallied) (marks marks' : List Mark)
-      → Knows app limits view base a t marks
+  pub knows_more : (points : List (List Injection)) (a b : List KeptRow) (t u : Store) (x y : Tallied) (visited visited' : List VisitedState)
+      → Knows app limits view base a t visited
       → GainsRows app limits view base points a b t u x y
-      → AreMarked app limits view base u marks' → Knows app limits view base b u marks'
-  knows_more points a b t u x y marks marks' knows gains are = record {
+      → AreVisited app limits view base u visited' → Knows app limits view base b u visited'
+  knows_more points a b t u x y visited visited' knows gains are = record {
     rows = known_more app limits view base points a b t u x y knows.legs knows.rows gains;
     legs = gains.legs;
-    marked = are;
+    are_visited = are;
   }
 
   -- ---- a row on its way
 
   -- how a run goes on from this kernel behind the end of the base run: no more
-  pub rest_over : (store : Store) (k : Machine) (told : Link) (steps ticks : ℕ) (end : End) → told ≡ link.Base (length base.events)
+  pub rest_over : (store : Store) (k : Machine) (link : Link) (steps ticks : ℕ) (end : End) → link ≡ links.Base (length base.events)
       → IsRest app limits k (record { events = []; steps = steps; ticks = ticks; end = end })
-      → IsRestIn app limits view base store k (record { told = told; steps = steps; ticks = ticks; end = end })
-  rest_over store k told steps ticks end to is = record {
+      → IsRestIn app limits view base store k (record { link = link; steps = steps; ticks = ticks; end = end })
+  rest_over store k link steps ticks end to is = record {
     events = [];
-    told = λ shown.
-        subst (λ (l : Link). Tells base.events store l []) (sym to) (told_no_more base.events store (length base.events) refl);
+    linked = λ shown.
+        subst (λ (l : Link). LinksTo base.events store l []) (sym to) (links_to_nothing base.events store (length base.events) refl);
     is_rest = is;
   }
 
@@ -130,10 +130,10 @@ module _ (app : Application) (limits : Limits) (view : View) (base : Run) where
   pub rest_of_base : (store : Store) (k : Machine) (from : ℕ) → from ≤ length base.events
       → IsRest app limits k (record base { events = drop from base.events })
       → IsRestIn app limits view base store k
-      (record { told = link.Base from; steps = base.steps; ticks = base.ticks; end = base.end })
+      (record { link = links.Base from; steps = base.steps; ticks = base.ticks; end = base.end })
   rest_of_base store k from within is = record {
     events = drop from base.events;
-    told = λ shown. record { there = within; are = refl };
+    linked = λ shown. record { there = within; are = refl };
     is_rest = is;
   }
 
@@ -149,21 +149,21 @@ module _ (app : Application) (limits : Limits) (view : View) (base : Run) where
           own = led.own;
           trail = led.kept;
           events = is.events;
-          told = is.told;
+          linked = is.linked;
           is_row = (rest_before app limits k now led.own ahead led.leads is.is_rest).of_each point way (none_from point formed k l);
         }
 
-    -- one that has come to its end tells no more
-    pub ended_rest : (store : Store) (told : Link) (steps ticks : ℕ) (end : End)
-        → end_of app limits (state_after app limits point k.steps) ≡ Some end → told ≡ link.Base (length base.events)
+    -- one that has come to its end reports no more
+    pub ended_rest : (store : Store) (link : Link) (steps ticks : ℕ) (end : End)
+        → end_of app limits (state_after app limits point k.steps) ≡ Some end → link ≡ links.Base (length base.events)
         → steps ≡ k.steps → ticks ≡ (state_after app limits point k.steps).elapsed
-        → IsRestOf app limits view base store store point k (record { told = told; steps = steps; ticks = ticks; end = end })
-    ended_rest store told steps ticks end ends to same t = record {
+        → IsRestOf app limits view base store store point k (record { link = link; steps = steps; ticks = ticks; end = end })
+    ended_rest store link steps ticks end ends to same t = record {
       own = [];
       trail = sym (append-nil store.trail);
       events = [];
-      told = λ shown.
-          subst (λ (l : Link). Tells base.events store l []) (sym to) (told_no_more base.events store (length base.events) refl);
+      linked = λ shown.
+          subst (λ (l : Link). LinksTo base.events store l []) (sym to) (links_to_nothing base.events store (length base.events) refl);
       is_row = rw same (record {
         goes_on = way.goes_on;
         ends = ends;
@@ -182,7 +182,7 @@ module _ (app : Application) (limits : Limits) (view : View) (base : Run) where
         record {
           within = all.0.within;
           events = is.events;
-          told = is.told;
+          linked = is.linked;
           is_rest = rest_before app limits p.kernel.value now (drop p.from store.trail) ahead all.0.leads is.is_rest;
         },
         all_passed store now rest is ps all.1,
@@ -190,9 +190,9 @@ module _ (app : Application) (limits : Limits) (view : View) (base : Run) where
 
   -- ---- a row that is over
 
-  -- From each kernel that it passed it is told by its leg.
+  -- From each kernel that it passed its events follow a link to its leg.
   pub all_closed : (over new : Store) (rest : Ahead) → AreLegs base.events over → new.trail ≡ over.trail
-      → new.legs ≡ over.legs ++ record { to = length over.trail; next = rest.told } ∷ []
+      → new.legs ≡ over.legs ++ record { to = length over.trail; next = rest.link } ∷ []
       → (ps : List Passed) → AllByRecursion (IsPassed app limits view base over rest) ps
       → AllByRecursion (λ (p : Passed). IsRestIn app limits view base new p.kernel.value (rest_from (length over.legs) rest p)) ps
   all_closed over new rest legs trail pushed [] all = tt
@@ -200,15 +200,15 @@ module _ (app : Application) (limits : Limits) (view : View) (base : Run) where
       let is = all.0 in (
         record {
           events = drop p.from over.trail ++ is.events;
-          told = λ shown.
-              closed_tells base.events over new legs (record { to = length over.trail; next = rest.told })
-              trail pushed refl is.events (is.told shown) p.from is.within;
+          linked = λ shown.
+              closed_links_to base.events over new legs (record { to = length over.trail; next = rest.link })
+              trail pushed refl is.events (is.linked shown) p.from is.within;
           is_rest = is.is_rest;
         },
         all_closed over new rest legs trail pushed ps all.1,
       )
 
-  -- where its events are not shown, nothing need be told
+  -- if its events are not shown, nothing need follow the link
   pub all_bare : (over new : Store) (number : ℕ) (rest : Ahead) → shows_events view rest.end ≡ false
       → (ps : List Passed) → AllByRecursion (IsPassed app limits view base over rest) ps
       → AllByRecursion (λ (p : Passed). IsRestIn app limits view base new p.kernel.value (rest_from number rest p)) ps
@@ -217,19 +217,19 @@ module _ (app : Application) (limits : Limits) (view : View) (base : Run) where
       let is = all.0 in (
         record {
           events = drop p.from over.trail ++ is.events;
-          told = λ shown. absurd (cc (shown, hidden));
+          linked = λ shown. absurd (cc (shown, hidden));
           is_rest = is.is_rest;
         },
         all_bare over new number rest hidden ps all.1,
       )
 
--- ---- marks are put, one after another
+-- ---- visited states are put, one after another
 
--- Where the marks are right, and each row that comes to one of the kernels that were passed goes on so, the same holds of what is
--- left of them and the marks that there are then.
+-- If the visited states are right, and each row that reaches one of the kernels that were passed goes on so, the same holds of
+-- what is left of them and the visited states that there are then.
 pub record LeavesRight (number : ℕ) (rest : Ahead) (passed : List Passed)
-    (marks : List Mark) (left : List Passed) (more : List Mark) : Type 0 where
-  pub marked : ArePut number rest passed marks more
+    (visited : List VisitedState) (left : List Passed) (more : List VisitedState) : Type 0 where
+  pub are_put : ArePut number rest passed visited more
   pub still : (app : Application) (limits : Limits) (view : View) (base : Run) (store : Store)
       → AllByRecursion (λ (p : Passed). IsRestIn app limits view base store p.kernel.value (rest_from number rest p)) passed
       → AllByRecursion (λ (p : Passed). IsRestIn app limits view base store p.kernel.value (rest_from number rest p)) left
@@ -238,21 +238,21 @@ all_last : {X : Type 0} (P : X → Type 0) (xs : List X) (x : X) → AllByRecurs
 all_last P [] x all = (tt, all.0)
 all_last P (y ∷ xs) x all = let more = all_last P xs x all.1 in ((all.0, more.0), more.1)
 
-module _ (number : ℕ) (rest : Ahead) (passed : List Passed) (marks : List Mark) where
-  pub right_here : LeavesRight number rest passed marks passed marks
-  right_here = record { marked = λ app limits view base store are all. are; still = λ app limits view base store all. all }
+module _ (number : ℕ) (rest : Ahead) (passed : List Passed) (visited : List VisitedState) where
+  pub right_here : LeavesRight number rest passed visited passed visited
+  right_here = record { are_put = λ app limits view base store are all. are; still = λ app limits view base store all. all }
 
-  -- the last one that was passed becomes a mark
-  pub right_then : (left : List Passed) (before : List Mark) (p : Passed) (step : ℕ) (fewer : List Passed) (more : List Mark)
-      → LeavesRight number rest passed marks left before → left ≡ fewer ++ p ∷ []
+  -- the last one that was passed becomes a visited state
+  pub right_then : (left : List Passed) (before : List VisitedState) (p : Passed) (step : ℕ) (fewer : List Passed) (more : List VisitedState)
+      → LeavesRight number rest passed visited left before → left ≡ fewer ++ p ∷ []
       → IsPutAt before more (record { kernel = p.kernel; hint = p.hint; step = step; rest = rest_from number rest p })
-      → LeavesRight number rest passed marks fewer more
+      → LeavesRight number rest passed visited fewer more
   right_then left before p step fewer more right is put = record {
-    marked = λ app limits view base store are all.
+    are_put = λ app limits view base store are all.
         let its =
         all_last (λ (q : Passed). IsRestIn app limits view base store q.kernel.value (rest_from number rest q))
         fewer p (rw is at (right.still app limits view base store all)) in
-        put app limits view base store (right.marked app limits view base store are all) its.1;
+        put app limits view base store (right.are_put app limits view base store are all) its.1;
     still = λ app limits view base store all.
         (all_last (λ (q : Passed). IsRestIn app limits view base store q.kernel.value (rest_from number rest q))
         fewer p (rw is at (right.still app limits view base store all))).0;

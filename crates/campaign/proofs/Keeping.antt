@@ -27,16 +27,16 @@ use Rattle.campaign.specs.declared.meeting.ahead.Ahead.{Ahead}
 use Rattle.campaign.specs.declared.worker.Outcome.{Outcome}
 use Rattle.rows.specs.declared.link.Leg.{Leg}
 use Rattle.rows.specs.declared.link.Link.{Link}
-use Rattle.rows.specs.declared.link.Link.TheVariants as link
+use Rattle.rows.specs.declared.link.Link.TheVariants as links
 use Rattle.campaign.specs.Kinds.{kind_in}
-use Rattle.rows.specs.Links.{Store, told_at, AreLegs, Grows, Tells}
+use Rattle.rows.specs.Links.{Store, linked_events, AreLegs, Grows, LinksTo}
 use Rattle.rows.specs.Report.{row_of, rows_of, IsKept}
 use Rattle.campaign.specs.Seen.{AreSeen, IsSeen, row_with}
 use Rattle.campaign.specs.Working.{counted, AreKnown, IsAmong, IsKeptRow, IsRestOf, GainsRow, Gained, GainsRows, KeepsRow}
 use Rattle.campaign.proofs.Counters.{none_added}
 use Rattle.campaign.proofs.Ends.{kind_in-append, kind_in-few}
-use Rattle.rows.proofs.Linked.{closed_grows, closed_legs, closed_tells, grows_here, grows_then, same_legs, same_told}
-use Rattle.rows.proofs.Linked.{still_link, told_no_more}
+use Rattle.rows.proofs.Linked.{closed_grows, closed_legs, closed_links_to, grows_here, grows_then, same_legs, same_linked_events}
+use Rattle.rows.proofs.Linked.{still_link, links_to_nothing}
 use Rattle.rows.proofs.LookedUp.{all_got}
 
 -- ---- a row of its own
@@ -91,34 +91,34 @@ module _ (app : Application) (limits : Limits) (view : View) (base : Run)
     -- a row that is reached begins as the base run does, and goes on by the leg with which it is closed
     pub reached_row : (new : Store) → beginning.before ≡ length (events_after app limits [] (first_step point))
         → first_step point < base.steps → is_reached app limits point base.steps ≡ true → shows_events view rest.end ≡ true
-        → new.trail ≡ over.trail → new.legs ≡ over.legs ++ record { to = length over.trail; next = rest.told } ∷ []
+        → new.trail ≡ over.trail → new.legs ≡ over.legs ++ record { to = length over.trail; next = rest.link } ∷ []
         → (from : ℕ) → from ≡ length old.trail
-        → (told : Link) → told ≡ link.Leg (length over.legs) from
+        → (link : Link) → link ≡ links.Leg (length over.legs) from
         → GainsRow app limits view base point old new (record {
           point = point;
           reached = true;
           shared = beginning.before;
-          told = told;
+          link = link;
           steps = rest.steps;
           ticks = rest.ticks;
           end = rest.end;
         })
-    reached_row new before l comes shown trail pushed from e told to =
-        let leg : Leg = record { to = length over.trail; next = rest.told } in
-        let next = goes.told shown in
+    reached_row new before l comes shown trail pushed from e link to =
+        let leg : Leg = record { to = length over.trail; next = rest.link } in
+        let next = goes.linked shown in
         let kept : KeptRow = record {
           point = point;
           reached = true;
           shared = beginning.before;
-          told = told;
+          link = link;
           steps = rest.steps;
           ticks = rest.ticks;
           end = rest.end;
         } in
         let low : from ≤ length over.trail = omega (arith, ap length its_events, length-append old.trail (begun.own ++ goes.own)) in
-        let closed : Tells base.events new told (drop from over.trail ++ goes.events) =
-        subst (λ (l : Link). Tells base.events new l (drop from over.trail ++ goes.events)) (sym to)
-        (closed_tells base.events over new its_legs leg trail pushed refl goes.events next from low) in
+        let closed : LinksTo base.events new link (drop from over.trail ++ goes.events) =
+        subst (λ (l : Link). LinksTo base.events new l (drop from over.trail ++ goes.events)) (sym to)
+        (closed_links_to base.events over new its_legs leg trail pushed refl goes.events next from low) in
         let behind : drop from over.trail ≡ begun.own ++ goes.own =
         ap (drop from) its_events ∙ drop_at old.trail (begun.own ++ goes.own) from (sym e) in
         let within : first_step point ≤ base.steps = omega arith in
@@ -126,7 +126,7 @@ module _ (app : Application) (limits : Limits) (view : View) (base : Run)
         let first : take beginning.before base.events ≡ front =
         rw (before, is.trace) (begins_with app limits [] (first_step point) base.steps within) in
         let events : events_after app limits point k.steps ++ (goes.own ++ goes.events)
-        ≡ take beginning.before base.events ++ told_at base.events new told =
+        ≡ take beginning.before base.events ++ linked_events base.events new link =
         ap (λ (es : List Event). es ++ (goes.own ++ goes.events)) begun.events
         ∙ append_assoc front begun.own (goes.own ++ goes.events)
         ∙ ap₂ (λ (xs ys : List Event). xs ++ ys) (sym first) (sym (append_assoc begun.own goes.own goes.events)
@@ -147,8 +147,8 @@ module _ (app : Application) (limits : Limits) (view : View) (base : Run)
                 is,
                 comes,
                 subst
-                    (λ (told : List Event).
-                    IsRun app point limits (record { events = told; steps = rest.steps; ticks = rest.ticks; end = rest.end }))
+                    (λ (es : List Event).
+                    IsRun app point limits (record { events = es; steps = rest.steps; ticks = rest.ticks; end = rest.end }))
                     events goes.is_row,
               );
               is = ap (λ (with_events : Bool). row_with with_events (row_of base new kept)) (sym shown);
@@ -159,23 +159,23 @@ module _ (app : Application) (limits : Limits) (view : View) (base : Run)
     -- one whose events are not shown is kept without them
     pub bare_row : (new : Store) → is_reached app limits point base.steps ≡ true → shows_events view rest.end ≡ false
         → (from : ℕ) → from ≡ length old.trail → new.trail ≡ take from over.trail
-        → new.legs ≡ over.legs → (told : Link) → told ≡ link.Base (length base.events)
+        → new.legs ≡ over.legs → (link : Link) → link ≡ links.Base (length base.events)
         → GainsRow app limits view base point old new
         (record {
           point = point;
           reached = true;
           shared = 0;
-          told = told;
+          link = link;
           steps = rest.steps;
           ticks = rest.ticks;
           end = rest.end;
         })
-    bare_row new comes hidden from e cut gone told to =
+    bare_row new comes hidden from e cut gone link to =
         let back : new.trail ≡ old.trail = dropped new.trail from e cut in
         let as_it_was : new.legs ≡ old.legs = gone ∙ still ∙ same in
         let grown = grows_by_none old new back as_it_was in
-        let nothing : Tells base.events new told [] =
-        subst (λ (l : Link). Tells base.events new l []) (sym to) (told_no_more base.events new (length base.events) refl) in
+        let nothing : LinksTo base.events new link [] =
+        subst (λ (l : Link). LinksTo base.events new l []) (sym to) (links_to_nothing base.events new (length base.events) refl) in
         let its_row : Row = record {
           point = point;
           reached = true;
@@ -203,42 +203,42 @@ module _ (app : Application) (limits : Limits) (view : View) (base : Run)
         }
 
   -- one that isn't reached is the base run
-  pub missed_row : (store : Store) → AreLegs base.events store → (b : Run) (shared : ℕ) (told : Link) → b ≡ base
+  pub missed_row : (store : Store) → AreLegs base.events store → (b : Run) (shared : ℕ) (link : Link) → b ≡ base
       → is_reached app limits point base.steps ≡ false
       → shared ≡ (if shows_events view b.end then length b.events else 0)
-      → told ≡ link.Base (length b.events)
+      → link ≡ links.Base (length b.events)
       → GainsRow app limits view base point store store
       (record {
         point = point;
         reached = false;
         shared = shared;
-        told = told;
+        link = link;
         steps = b.steps;
         ticks = b.ticks;
         end = b.end;
       })
-  missed_row store legs b shared told same missed count to = subst
+  missed_row store legs b shared link same missed count to = subst
       (λ (r : Run).
       GainsRow app limits view base point store store
       (record {
         point = point;
         reached = false;
         shared = shared;
-        told = told;
+        link = link;
         steps = r.steps;
         ticks = r.ticks;
         end = r.end;
       }))
       (sym same) (its_row (subst (λ (r : Run). shared ≡ (if shows_events view r.end then length r.events else 0)) same count)
-      (subst (λ (r : Run). told ≡ link.Base (length r.events)) same to))
+      (subst (λ (r : Run). link ≡ links.Base (length r.events)) same to))
     where
-      its_row : shared ≡ (if shows_events view base.end then length base.events else 0) → told ≡ link.Base (length base.events)
+      its_row : shared ≡ (if shows_events view base.end then length base.events else 0) → link ≡ links.Base (length base.events)
           → GainsRow app limits view base point store store
           (record {
             point = point;
             reached = false;
             shared = shared;
-            told = told;
+            link = link;
             steps = base.steps;
             ticks = base.ticks;
             end = base.end;
@@ -246,9 +246,9 @@ module _ (app : Application) (limits : Limits) (view : View) (base : Run)
       its_row count to =
           let shown = shows_events view base.end in
           let taken = taken_by shown base.events shared count in
-          let nothing : Tells base.events store told [] =
-          subst (λ (l : Link). Tells base.events store l []) (sym to) (told_no_more base.events store (length base.events) refl) in
-          let its : take shared base.events ++ told_at base.events store told ≡ own_of_all shown base.events =
+          let nothing : LinksTo base.events store link [] =
+          subst (λ (l : Link). LinksTo base.events store l []) (sym to) (links_to_nothing base.events store (length base.events) refl) in
+          let its : take shared base.events ++ linked_events base.events store link ≡ own_of_all shown base.events =
           ap₂ (λ (xs ys : List Event). xs ++ ys) taken.1 nothing.are ∙ append-nil (own_of_all shown base.events) in
           let whole : Row = record { point = point; reached = false; run = base } in
           record {
@@ -278,10 +278,10 @@ all-append P (x ∷ xs) ys h k = (h.0, all-append P xs ys h.1 k)
 module _ (base : Run) (store new : Store) (legs : AreLegs base.events store) (grown : Grows store new) where
   pub same_rows : (kept : List KeptRow) → AllByRecursion (IsKept base store) kept → rows_of base new kept ≡ rows_of base store kept
   same_rows [] all = refl
-  same_rows (k ∷ kept) all = rw (same_told base.events store legs new grown k.told all.0.link, same_rows kept all.1) refl
+  same_rows (k ∷ kept) all = rw (same_linked_events base.events store legs new grown k.link all.0.link, same_rows kept all.1) refl
 
   still_one : (k : KeptRow) → IsKept base store k → IsKept base new k
-  still_one k is = record { shared = is.shared; link = still_link base.events store legs new grown k.told is.link }
+  still_one k is = record { shared = is.shared; link = still_link base.events store legs new grown k.link is.link }
 
   pub still_kept : (kept : List KeptRow) → AllByRecursion (IsKept base store) kept → AllByRecursion (IsKept base new) kept
   still_kept [] all = tt
@@ -294,7 +294,7 @@ module _ (base : Run) (store new : Store) (legs : AreLegs base.events store) (gr
     record {
       at_point = refl;
       is_kept = still_one k known.0.is_kept;
-      is_seen = rw (same_told base.events store legs new grown k.told known.0.is_kept.link) known.0.is_seen;
+      is_seen = rw (same_linked_events base.events store legs new grown k.link known.0.is_kept.link) known.0.is_seen;
     },
     still_known app limits view kept known.1,
   )

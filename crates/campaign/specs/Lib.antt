@@ -2,7 +2,7 @@ pub mod Campaigns
 pub mod Faults
 pub mod Kinds
 pub mod Made
-pub mod Marks
+pub mod Visited
 pub mod Named
 pub mod OneRun
 pub mod Points

@@ -15,7 +15,7 @@ use Rattle.campaign.specs.declared.meeting.runner.Runner.{Runner}
 use Rattle.campaign.specs.declared.setup.Setup.{Setup}
 use Rattle.campaign.specs.declared.worker.Outcome.{Outcome}
 use Rattle.campaign.specs.declared.worker.Worker.{Worker}
-use Rattle.campaign.specs.Marks.{AreBehind, AreMarked, IsAhead, Knows}
+use Rattle.campaign.specs.Visited.{AreBehind, AreVisited, IsAhead, Knows}
 use Rattle.campaign.specs.Working.{store_in, GainsRow, GainsRows, IsPassed, IsRestOf, KeepsRow}
 
 -- ---- between two rows
@@ -24,10 +24,10 @@ use Rattle.campaign.specs.Working.{store_in, GainsRow, GainsRows, IsPassed, IsRe
 abbrev pub HasLegs : Setup → Runner → Type 0
 HasLegs setup runner = AreLegs setup.shelf.now.base.events (store_in runner)
 
--- its marks are right
-abbrev pub HasMarks : Setup → Runner → Type 0
-HasMarks setup runner = AreMarked setup.app.now setup.shelf.now.limits setup.view.now
-    setup.shelf.now.base (store_in runner) runner.table.marks.items
+-- its visited states are right
+abbrev pub HasVisited : Setup → Runner → Type 0
+HasVisited setup runner = AreVisited setup.app.now setup.shelf.now.limits setup.view.now
+    setup.shelf.now.base (store_in runner) runner.table.visited.items
 
 -- it kept the row of this point so, with what its store gained
 abbrev pub RunsRow : Setup → (point : List Injection) → (old new : Runner) → KeptRow → Type 0
@@ -59,10 +59,10 @@ abbrev pub IsLedOn : Setup → (old new : Runner) → Type 0
 IsLedOn setup old new = IsLed setup.app.now setup.shelf.now.limits old.simulation.kernel new.simulation.kernel
     (all_of old.simulation.trail) (all_of new.simulation.trail)
 
--- If the old marks are right, each row that reaches the new kernel goes on in this way.
+-- If the old visited states are right, each row that reaches the new kernel goes on in this way.
 abbrev pub IsAheadOf : Setup → (old new : Runner) → Ahead → Type 0
 IsAheadOf setup old new rest =
-    IsAhead setup.app.now setup.shelf.now.limits setup.shelf.now.base old.table.marks.items new.simulation.kernel rest
+    IsAhead setup.app.now setup.shelf.now.limits setup.shelf.now.base old.table.visited.items new.simulation.kernel rest
 
 -- ---- the rest of a row
 
@@ -79,10 +79,10 @@ ArePassed setup runner rest = AllByRecursion
 
 -- ---- a worker
 
--- what it knows of its rows, and of its runner's legs and marks
+-- what it knows of its rows, and of its runner's legs and visited states
 abbrev pub KnowsRows : Setup → Worker → Type 0
 KnowsRows setup worker = Knows setup.app.now setup.shelf.now.limits setup.view.now setup.shelf.now.base
-    worker.kept (store_in worker.runner) worker.runner.table.marks.items
+    worker.kept (store_in worker.runner) worker.runner.table.visited.items
 
 -- The row of this point comes after the rows that it had, and has this outcome.
 abbrev pub MakesRow : Setup → (point : List Injection) → (old new : Worker) → Outcome → Type 0

@@ -22,13 +22,13 @@ use Rattle.rows.specs.declared.rows.KeptBlock.{KeptBlock}
 use Rattle.rows.specs.declared.rows.Part.{Part}
 use Rattle.campaign.specs.declared.meeting.ahead.Ahead.{Ahead}
 use Rattle.rows.specs.declared.link.Link.{Link}
-use Rattle.campaign.specs.declared.meeting.mark.Passed.{Passed}
+use Rattle.campaign.specs.declared.meeting.visited_state.Passed.{Passed}
 use Rattle.campaign.specs.declared.meeting.runner.Runner.{Runner}
 use Rattle.campaign.specs.declared.worker.Job.{Job}
 use Rattle.campaign.specs.declared.worker.Done.{Done}
 use Rattle.campaign.specs.declared.worker.Outcome.{Outcome}
 use Rattle.campaign.specs.Kinds.{kind_in}
-use Rattle.rows.specs.Links.{Store, AreLegs, Grows, Tells}
+use Rattle.rows.specs.Links.{Store, AreLegs, Grows, LinksTo}
 use Rattle.rows.specs.Report.{row_of, rows_of, store_of, IsKept, AreKept}
 use Rattle.rows.specs.Placing.{numbers_of}
 use Rattle.campaign.specs.Seen.{AreSeen, IsSeen}
@@ -86,14 +86,14 @@ abbrev pub store_in : Runner → Store
 store_in runner = record { trail = all_of runner.simulation.trail; legs = runner.legs.items }
 
 -- These events follow the link, if the view shows those of a row that ends in this way.
-abbrev pub IsTold : View → (base : List Event) → Store → Link → End → List Event → Type 0
-IsTold view base store link end events = shows_events view end ≡ true → Tells base store link events
+abbrev pub AreLinked : View → (base : List Event) → Store → Link → End → List Event → Type 0
+AreLinked view base store link end events = shows_events view end ≡ true → LinksTo base store link events
 
 -- Each row that reaches the kernel goes on in this way, and what it reports is there, if the view shows it.
 pub record IsRestIn (app : Application) (limits : Limits) (view : View)
     (base : Run) (store : Store) (k : Machine) (rest : Ahead) : Type 0 where
   pub events : List Event
-  pub told : IsTold view base.events store rest.told rest.end events
+  pub linked : AreLinked view base.events store rest.link rest.end events
   pub is_rest : IsRest app limits k (record { events = events; steps = rest.steps; ticks = rest.ticks; end = rest.end })
 
 -- The row of this point, which has reached the kernel, goes on by what the trail gained, and then in this way; and what it
@@ -103,7 +103,7 @@ pub record IsRestOf (app : Application) (limits : Limits) (view : View) (base : 
   pub own : List Event
   pub trail : new.trail ≡ old.trail ++ own
   pub events : List Event
-  pub told : IsTold view base.events new rest.told rest.end events
+  pub linked : AreLinked view base.events new rest.link rest.end events
   pub is_row : IsRun app point limits (record {
     events = events_after app limits point k.steps ++ (own ++ events);
     steps = rest.steps;
@@ -117,7 +117,7 @@ pub record IsPassed (app : Application) (limits : Limits) (view : View)
     (base : Run) (store : Store) (rest : Ahead) (passed : Passed) : Type 0 where
   pub within : passed.from ≤ length store.trail
   pub events : List Event
-  pub told : IsTold view base.events store rest.told rest.end events
+  pub linked : AreLinked view base.events store rest.link rest.end events
   pub is_rest : IsRest app limits passed.kernel.value
       (record { events = drop passed.from store.trail ++ events; steps = rest.steps; ticks = rest.ticks; end = rest.end })
 

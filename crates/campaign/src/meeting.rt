@@ -1,12 +1,12 @@
 //! Rows that meet: a row that reaches a state which the base run or another row has reached goes on as that did.
 mod ahead;
-mod mark;
-mod mark_steps;
-mod mark_table;
+mod meeting_steps;
 mod meetings;
 mod runner;
 mod spacing;
 mod timers;
+mod visited_state;
+mod visited_states;
 
 pub(crate) use runner::Runner;
 pub(crate) use spacing::Spacing;

@@ -2,7 +2,7 @@
 ghost use Rattle.std.specs.Prelude.{◌≡◌, ◌<◌, ◌≤◌, ◌+◌, ◌^◌, ◌++◌, ◌∷◌, ℕ, [], None, length, slice_index, sum, take, drop, IfOk, IfSome, OnOk};
 ghost use Rattle.model.specs.Application.{Limits};
 ghost use Rattle.shelf.specs.Walks.{IsWalk};
-ghost use Rattle.campaign.specs.Running.{HasMarks, KnowsRows, MakesRow, MakesRows};
+ghost use Rattle.campaign.specs.Running.{HasVisited, KnowsRows, MakesRow, MakesRows};
 ghost use Rattle.campaign.specs.Setup.{work_of, IsSetup, IsWalkOf};
 ghost use Rattle.campaign.specs.Working.{counted, HasRoom, IsAmong, IsDone, IsJob};
 
@@ -84,13 +84,13 @@ fn again(kept: &KeptRows, recent: &Recent, point: &Point) -> Option<usize>
 }
 
 impl Worker {
-    // A worker that has made nothing, with this room for rows, whose rows will look for marks in this way.
+    // A worker that has made nothing, with this room for rows, whose rows will look for visited states in this way.
     fn new(alloc: Global, app: &App, spacing: Spacing, kept: KeptRows) -> Worker
         ensures walk { (limits : Limits) → IsWalk app.now limits result.walk }
         ensures kept { result.kept ≡ kept }
         ensures blocks { result.blocks.items ≡ [] }
         ensures legs { result.runner.legs.items ≡ [] }
-        ensures marks { result.runner.table.marks.items ≡ [] }
+        ensures visited { result.runner.table.visited.items ≡ [] }
     {
         Worker {
             runner: Runner::new(alloc, app, spacing),
@@ -110,7 +110,7 @@ impl Worker {
         ensures walk { OnOk result (IsWalkOf setup.now self.new.walk) }
         ensures blocks { self.new.blocks ≡ self.old.blocks }
         ensures row { IfOk result (MakesRow setup.now point.now self.old self.new) }
-        ensures marks { OnOk result (HasMarks setup.now self.new.runner) }
+        ensures visited { OnOk result (HasVisited setup.now self.new.runner) }
     {
         if let Some(number) = again(&self.kept, &self.recent, point) {
             let outcome = Outcome::of(self.kept.at(number));
@@ -246,7 +246,7 @@ pub(crate) fn work<R: Wait, G: Gate>(
         recent: _recent,
         walk: _walk,
     } = worker;
-    let (trail, legs) = runner.into_told();
+    let (trail, legs) = runner.into_trail_and_legs();
     Done {
         lane,
         seat,

@@ -6,5 +6,5 @@ mod Pieces
 pub mod Placed
 mod Sending
 mod Stretched
-mod Telling
+mod LegByLeg
 pub mod Totalling

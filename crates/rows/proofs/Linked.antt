@@ -9,8 +9,8 @@ use Rattle.std.proofs.Math.Seq.{drop-length}
 use Rattle.model.specs.declared.event.Event.{Event}
 use Rattle.rows.specs.declared.link.Leg.{Leg}
 use Rattle.rows.specs.declared.link.Link.{Link}
-use Rattle.rows.specs.declared.link.Link.TheVariants as link
-use Rattle.rows.specs.Links.{Store, told_by, told_at, height, IsOn, IsLink, IsLeg, AreLegs, Grows, Tells}
+use Rattle.rows.specs.declared.link.Link.TheVariants as links
+use Rattle.rows.specs.Links.{Store, linked_by, linked_events, height, IsOn, IsLink, IsLeg, AreLegs, Grows, LinksTo}
 
 -- ---- lists
 
@@ -56,14 +56,14 @@ grows_then a b c g h = record {
 -- ---- links
 
 module _ (base : List Event) where
-  -- The end of the base run is a place of it, behind which nothing is told.
-  pub told_no_more : (store : Store) (from : ℕ) → from ≡ length base → Tells base store (link.Base from) []
-  told_no_more store from at = record { there = omega arith; are = ap (λ (n : ℕ). drop n base) at ∙ drop-length base }
+  -- The end of the base run is a place of it, after which there are no events.
+  pub links_to_nothing : (store : Store) (from : ℕ) → from ≡ length base → LinksTo base store (links.Base from) []
+  links_to_nothing store from at = record { there = omega arith; are = ap (λ (n : ℕ). drop n base) at ∙ drop-length base }
 
   -- a link goes over legs that are there
   pub link_height : (store : Store) (l : Link) → IsLink base store l → height l ≤ length store.legs
-  link_height store (link.Base from) is = omega arith
-  link_height store (link.Leg number from) (leg, at, on) = let low = slice_get_within store.legs number leg at in omega arith
+  link_height store (links.Base from) is = omega arith
+  link_height store (links.Leg number from) (leg, at, on) = let low = slice_get_within store.legs number leg at in omega arith
 
   -- where there are no legs, each is one
   pub without_legs : (store : Store) → store.legs ≡ [] → AreLegs base store
@@ -74,25 +74,25 @@ module _ (base : List Event) where
 
   module _ (store : Store) (legs : AreLegs base store) where
     -- how far one looks doesn't matter, and what came later neither
-    same_told_by : (new : Store) → Grows store new → (n m : ℕ) (l : Link) → height l ≤ n
-        → height l ≤ m → IsLink base store l → told_by base new n l ≡ told_by base store m l
-    same_told_by new g zero zero (link.Base from) p q is = refl
-    same_told_by new g zero (suc m) (link.Base from) p q is = refl
-    same_told_by new g (suc n) zero (link.Base from) p q is = refl
-    same_told_by new g (suc n) (suc m) (link.Base from) p q is = refl
-    same_told_by new g zero m (link.Leg number from) p q is = absurd (omega arith)
-    same_told_by new g (suc n) zero (link.Leg number from) p q is = absurd (omega arith)
-    same_told_by new g (suc n) (suc m) (link.Leg number from) p q (leg, at, on) =
+    same_linked_by : (new : Store) → Grows store new → (n m : ℕ) (l : Link) → height l ≤ n
+        → height l ≤ m → IsLink base store l → linked_by base new n l ≡ linked_by base store m l
+    same_linked_by new g zero zero (links.Base from) p q is = refl
+    same_linked_by new g zero (suc m) (links.Base from) p q is = refl
+    same_linked_by new g (suc n) zero (links.Base from) p q is = refl
+    same_linked_by new g (suc n) (suc m) (links.Base from) p q is = refl
+    same_linked_by new g zero m (links.Leg number from) p q is = absurd (omega arith)
+    same_linked_by new g (suc n) zero (links.Leg number from) p q is = absurd (omega arith)
+    same_linked_by new g (suc n) (suc m) (links.Leg number from) p q (leg, at, on) =
         let its = legs number leg at in
         let before = its.before in
         let there : slice_get new.legs number ≡ Some leg = rw g.legs (get_front store.legs g.more number leg at) in
-        let rest = same_told_by new g n m leg.next (omega arith) (omega arith) its.next in
+        let rest = same_linked_by new g n m leg.next (omega arith) (omega arith) its.next in
         let here : slice_range new.trail from leg.to ≡ slice_range store.trail from leg.to =
         rw g.trail (same_range store.trail g.own from leg.to on.rises on.within) in
         rw (at, there, rest, here) refl
 
-    pub same_told : (new : Store) → Grows store new → (l : Link) → IsLink base store l → told_at base new l ≡ told_at base store l
-    same_told new g l is = same_told_by new g (height l) (height l) l (omega arith) (omega arith) is
+    pub same_linked_events : (new : Store) → Grows store new → (l : Link) → IsLink base store l → linked_events base new l ≡ linked_events base store l
+    same_linked_events new g l is = same_linked_by new g (height l) (height l) l (omega arith) (omega arith) is
 
     still_on : (trail own : List Event) (from : ℕ) (leg : Leg) → IsOn trail from leg → IsOn (trail ++ own) from leg
     still_on trail own from leg is =
@@ -100,22 +100,22 @@ module _ (base : List Event) where
 
     -- a link stays one
     pub still_link : (new : Store) → Grows store new → (l : Link) → IsLink base store l → IsLink base new l
-    still_link new g (link.Base from) is = is
-    still_link new g (link.Leg number from) (leg, at, on) =
+    still_link new g (links.Base from) is = is
+    still_link new g (links.Leg number from) (leg, at, on) =
         (leg, rw g.legs (get_front store.legs g.more number leg at), rw g.trail (still_on store.trail g.own from leg on))
 
-    -- what was told behind a link still is
-    pub still_tells : (new : Store) → Grows store new → (l : Link) (events : List Event)
-        → Tells base store l events → Tells base new l events
-    still_tells new g l events is = record { there = still_link new g l is.there; are = same_told new g l is.there ∙ is.are }
+    -- the events that followed a link still do
+    pub still_links_to : (new : Store) → Grows store new → (l : Link) (events : List Event)
+        → LinksTo base store l events → LinksTo base new l events
+    still_links_to new g l events is = record { there = still_link new g l is.there; are = same_linked_events new g l is.there ∙ is.are }
 
-    -- the events behind a link: those of its leg, and then those behind the leg
-    pub told_on : (number from : ℕ) (leg : Leg) → slice_get store.legs number ≡ Some leg
-        → told_at base store (link.Leg number from) ≡ slice_range store.trail from leg.to ++ told_at base store leg.next
-    told_on number from leg at =
+    -- the events that follow a link: those of its leg, and then those after the leg
+    pub linked_on : (number from : ℕ) (leg : Leg) → slice_get store.legs number ≡ Some leg
+        → linked_events base store (links.Leg number from) ≡ slice_range store.trail from leg.to ++ linked_events base store leg.next
+    linked_on number from leg at =
         let its = legs number leg at in
         let before = its.before in
-        let rest = same_told_by store (grows_here store) number (height leg.next) leg.next before (omega arith) its.next in
+        let rest = same_linked_by store (grows_here store) number (height leg.next) leg.next before (omega arith) its.next in
         let one : number + 1 ≡ suc number = omega arith in
         rw (one, at, rest) refl
 
@@ -136,8 +136,8 @@ module _ (base : List Event) where
         record { before = rw (here.0, sym same) before; next = rw (sym same) (still_link new g leg.next next) }) in
         ⊎_elim old last (get_more store.legs leg number other (rw is at at))
 
--- A row is closed by a leg up to the end of the trail. Behind a place of the trail it is told from there on, and then what the leg
--- goes on with.
+-- A row is closed by a leg up to the end of the trail. What follows a link to the leg, from a place of the trail on, is the trail from
+-- there on, and then what the leg goes on with.
 module _ (base : List Event) (store new : Store) (legs : AreLegs base store) (leg : Leg)
     (trail : new.trail ≡ store.trail) (pushed : new.legs ≡ store.legs ++ leg ∷ []) where
   pub closed_grows : Grows store new
@@ -146,19 +146,19 @@ module _ (base : List Event) (store new : Store) (legs : AreLegs base store) (le
   pub closed_legs : IsLink base store leg.next → AreLegs base new
   closed_legs next = leg_more base store legs new closed_grows leg pushed next (link_height base store leg.next next)
 
-  pub closed_tells : leg.to ≡ length store.trail → (events : List Event)
-      → Tells base store leg.next events → (from : ℕ) → from ≤ length store.trail
-      → Tells base new (link.Leg (length store.legs) from) (drop from store.trail ++ events)
-  closed_tells to events tells from low =
+  pub closed_links_to : leg.to ≡ length store.trail → (events : List Event)
+      → LinksTo base store leg.next events → (from : ℕ) → from ≤ length store.trail
+      → LinksTo base new (links.Leg (length store.legs) from) (drop from store.trail ++ events)
+  closed_links_to to events linked from low =
       let at : slice_get new.legs (length store.legs) ≡ Some leg = rw pushed (get_last store.legs leg) in
-      let two = told_on base new (closed_legs tells.there) (length store.legs) from leg at in
-      let rest : told_at base new leg.next ≡ events = same_told base store legs new closed_grows leg.next tells.there ∙ tells.are in
+      let two = linked_on base new (closed_legs linked.there) (length store.legs) from leg at in
+      let rest : linked_events base new leg.next ≡ events = same_linked_events base store legs new closed_grows leg.next linked.there ∙ linked.are in
       let long : length (drop from store.trail) ≤ leg.to - from = omega (arith, length-drop from store.trail) in
       let first : slice_range new.trail from leg.to ≡ drop from store.trail =
       rw trail (take_all (leg.to - from) (drop from store.trail) long) in
       record {
         there = (leg, at, record { rises = omega (arith, to); within = rw trail (omega (arith, to)) });
         are =
-            two ∙ ap (λ (es : List Event). es ++ told_at base new leg.next) first
+            two ∙ ap (λ (es : List Event). es ++ linked_events base new leg.next) first
             ∙ ap (λ (es : List Event). drop from store.trail ++ es) rest;
       }

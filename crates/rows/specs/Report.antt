@@ -10,7 +10,7 @@ use Rattle.rows.specs.declared.rows.KeptRow.{KeptRow}
 use Rattle.rows.specs.declared.rows.Part.{Part}
 use Rattle.rows.specs.declared.rows.Place.{Place}
 use Rattle.rows.specs.declared.campaign_report.Rows.{Rows}
-use Rattle.rows.specs.Links.{Store, told_at, AreLegs, IsLink}
+use Rattle.rows.specs.Links.{Store, linked_events, AreLegs, IsLink}
 
 -- A row that is kept begins as the base run does, with this many of its events, and goes on with those that follow its link.
 abbrev pub row_of : (base : Run) → Store → KeptRow → Row
@@ -18,7 +18,7 @@ row_of base store kept = record {
   point = kept.point;
   reached = kept.reached;
   run = record {
-    events = take kept.shared base.events ++ told_at base.events store kept.told;
+    events = take kept.shared base.events ++ linked_events base.events store kept.link;
     steps = kept.steps;
     ticks = kept.ticks;
     end = kept.end;
@@ -31,7 +31,7 @@ rows_of base store kept = map (row_of base store) kept
 -- the events of the row are there
 pub record IsKept (base : Run) (store : Store) (kept : KeptRow) : Type 0 where
   pub shared : kept.shared ≤ length base.events
-  pub link : IsLink base.events store kept.told
+  pub link : IsLink base.events store kept.link
 
 -- ---- the rows as a whole
 

@@ -12,7 +12,7 @@ pub struct KeptRow {
     /// Whether the base run gets beyond the step of the point's first injection, and that can come there.
     pub reached: bool,
     pub shared: usize,
-    pub told: Link,
+    pub link: Link,
     pub steps: u32,
     pub ticks: u64,
     pub end: End,

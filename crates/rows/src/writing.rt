@@ -11,7 +11,7 @@ ghost use Rattle.report.specs.Text.{event_text, row_text, total_text};
 ghost use Rattle.report.specs.Views.{report_text, row_head, shown_row, shown_rows};
 ghost use Rattle.report.specs.declared.title.Title.TheVariants as title;
 ghost use Rattle.rows.specs.Events.{row_from, AreEventsOf, HaveRow, IsKnownRow};
-ghost use Rattle.rows.specs.Links.{told_at, IsLink, Store};
+ghost use Rattle.rows.specs.Links.{linked_events, IsLink, Store};
 ghost use Rattle.rows.specs.Report.{row_of, rows_at, store_of, whole, IsPlace, IsSound};
 ghost use Rattle.rows.specs.Pieces.{piece_text, AreFresh, ArePairs, ArePieces, IsPiece, IsRendering};
 
@@ -102,7 +102,7 @@ fn add_leg<W: Sink>(
 }
 
 // Adds the lines of the events that follow a link of a part.
-fn add_told<W: Sink>(
+fn add_linked_events<W: Sink>(
     writer: &mut W,
     text: &mut ReportWriter<'_>,
     first: Link,
@@ -113,7 +113,7 @@ fn add_told<W: Sink>(
     requires link { IsLink events.now.base.now.events (store_of events.now.part.now) first }
     ensures app { text.new.app ≡ text.old.app }
     ensures text { Adds (W.held writer.old) (W.held writer.new) text.old.page text.new.page result
-        (flat_map (event_text text.old.app) (told_at events.now.base.now.events (store_of events.now.part.now) first)) }
+        (flat_map (event_text text.old.app) (linked_events events.now.base.now.events (store_of events.now.part.now) first)) }
     ensures failed { W.has_failed writer.new ≡ is_err result }
 {
     let mut link = first;
@@ -155,7 +155,7 @@ pub(crate) fn add_row<W: Sink>(
         events.base_events,
         row.shared,
     )?;
-    add_told(writer, text, row.told, events)
+    add_linked_events(writer, text, row.link, events)
 }
 
 // Adds the head line of a row of this number, whatever its events are.

@@ -1,7 +1,7 @@
-//! Whether it pays off for a row to look for marks long after its last injection.
+//! Whether it pays off for a row to look for visited states long after its last injection.
 
-// This many more rows than those that reach a mark may go on looking for one before that is taken
-// not to pay off.
+// This many more rows than those that reach a visited state may go on looking for one before that
+// is taken not to pay off.
 const PATIENCE: u32 = 32;
 
 // If it doesn't pay off, one row in this many looks on.
@@ -10,8 +10,9 @@ const SELDOM: u32 = 128;
 // If more rows than these looked on, the earlier ones count half.
 const MOST_ROWS: u32 = 1024;
 
-/// How many rows of a worker went on after their first mark step, and how many of those that looked
-/// for marks there reached one. If fewer than half do, most rows are run to their end without.
+/// How many rows of a worker went on after their first meeting step, and how many of those that
+/// looked for visited states there reached one. If fewer than half do, most rows are run to their
+/// end without.
 #[derive(Drop)]
 pub(crate) struct Meetings {
     rows: u32,
@@ -29,14 +30,14 @@ impl Meetings {
         }
     }
 
-    /// Whether a row that goes on is to look for marks, and to leave them.
+    /// Whether a row that goes on is to look for visited states, and to leave them.
     pub(crate) fn are_likely(&mut self) -> bool {
         self.rows = self.rows.wrapping_add(1);
         let most = self.met.saturating_mul(2).saturating_add(PATIENCE);
         self.looked <= most || self.rows % SELDOM == 0
     }
 
-    /// Counts a row that looked for marks, and reached one or didn't.
+    /// Counts a row that looked for visited states, and reached one or didn't.
     pub(crate) fn count(&mut self, has_met: bool) {
         if self.looked >= MOST_ROWS {
             self.looked /= 2;

@@ -5,17 +5,17 @@ ghost use Rattle.model.specs.Points.{first_step, last_step};
 ghost use Rattle.machine.specs.Logged.{all_of};
 ghost use Rattle.report.specs.Views.{shows_events};
 ghost use Rattle.rows.specs.declared.link.Link.TheVariants as links;
-ghost use Rattle.campaign.specs.Marks.{ArePut, IsNoted};
-ghost use Rattle.campaign.specs.Running.{ArePassed, HasLegs, HasMarks, HasPassed, IsAheadOf, IsLedOn, IsOnWay, IsPastAll};
+ghost use Rattle.campaign.specs.Visited.{ArePut, IsNoted};
+ghost use Rattle.campaign.specs.Running.{ArePassed, HasLegs, HasVisited, HasPassed, IsAheadOf, IsLedOn, IsOnWay, IsPastAll};
 ghost use Rattle.campaign.specs.Running.{IsRestOfRow, RunsRow, end_at};
 ghost use Rattle.campaign.specs.Setup.{IsSetup, IsWalkOf, is_reached_in};
 
 use crate::meeting::ahead::Ahead;
-use crate::meeting::mark::{Mark, Passed};
-use crate::meeting::mark_steps::next_mark;
-use crate::meeting::mark_table::MarkTable;
+use crate::meeting::meeting_steps::next_meeting_step;
 use crate::meeting::meetings::Meetings;
 use crate::meeting::spacing::Spacing;
+use crate::meeting::visited_state::{Passed, VisitedState};
+use crate::meeting::visited_states::VisitedStates;
 use crate::setup::Setup;
 use kernel::{Kernel, RestEnding, Snapshot, Trail, go_far};
 use model::{App, End, Injection, Limits, Memory, Meter, Point, Run};
@@ -25,28 +25,28 @@ use shelf::{Simulation, Walk};
 use std::alloc::Global;
 
 /// What a worker runs its rows with: the simulation, with the trail of all of them, their legs, the
-/// marks at kernels that they reached, and the kernels that the row on its way has reached.
+/// visited states, and the kernels that the row on its way has reached.
 #[derive(Drop)]
 pub(crate) struct Runner {
     alloc: Global,
     pub(crate) simulation: Simulation,
     pub(crate) legs: Vec<Leg>,
-    pub(crate) table: MarkTable,
+    pub(crate) table: VisitedStates,
     passed: Vec<Passed>,
-    // Snapshots of marks that were replaced, whose memory is used again.
+    // Snapshots of visited states that were replaced, whose memory is used again.
     spent: Vec<Box<Snapshot>>,
     meetings: Meetings,
     spacing: Spacing,
 }
 
-// The first step at which the row of a point looks for marks. It is after that of the last
-// injection, or after each step that a run can reach.
-fn first_mark(spacing: &Spacing, point: &Point) -> u32
+// The first meeting step of the row of a point. It is after that of the last injection, or after
+// each step that a run can reach.
+fn first_meeting_step(spacing: &Spacing, point: &Point) -> u32
     ensures { min (last_step point.now) 1000000 < result }
 {
     let last = point.last_step().min(Limits::MOST);
     let delay = spacing.delay().min(Limits::MOST);
-    next_mark(spacing.steps(), last, last + delay)
+    next_meeting_step(spacing.steps(), last, last + delay)
 }
 
 // How many events a row has that is the base run, as far as the view shows it.
@@ -62,10 +62,10 @@ fn shared_by(base: &Run, view: View) -> usize
 
 // The rest of a row that ended in this way: nothing more.
 fn ahead_of(ending: RestEnding, base: &Run) -> Ahead
-    ensures { result ≡ record { told = links.Base (length base.now.events); steps = ending.steps; ticks = ending.ticks; end = ending.end } }
+    ensures { result ≡ record { link = links.Base (length base.now.events); steps = ending.steps; ticks = ending.ticks; end = ending.end } }
 {
     Ahead {
-        told: end_of_base(base),
+        link: end_of_base(base),
         steps: ending.steps,
         ticks: ending.ticks,
         end: ending.end,
@@ -98,16 +98,16 @@ fn snapshot_of(
 }
 
 impl Runner {
-    /// No row is run. Rows will look for marks in this way.
+    /// No row is run. Rows will look for visited states in this way.
     pub(crate) fn new(alloc: Global, app: &App, spacing: Spacing) -> Runner
         ensures legs { result.legs.items ≡ [] }
-        ensures marks { result.table.marks.items ≡ [] }
+        ensures visited { result.table.visited.items ≡ [] }
     {
         Runner {
             alloc,
             simulation: Simulation::new(alloc, app),
             legs: Vec::new(alloc),
-            table: MarkTable::new(alloc, spacing.closest()),
+            table: VisitedStates::new(alloc, spacing.closest()),
             passed: Vec::new(alloc),
             spent: Vec::new(alloc),
             meetings: Meetings::new(),
@@ -116,7 +116,7 @@ impl Runner {
     }
 
     /// The events of all rows, and their legs.
-    pub(crate) fn into_told(self) -> (Trail, Vec<Leg>)
+    pub(crate) fn into_trail_and_legs(self) -> (Trail, Vec<Leg>)
         ensures { result ≡ (self.simulation.trail, self.legs) }
     {
         (self.simulation.trail, self.legs)
@@ -131,7 +131,7 @@ impl Runner {
         let limits = setup.shelf.limits();
         limits.well_formed();
         Ahead {
-            told: end_of_base(setup.shelf.base()),
+            link: end_of_base(setup.shelf.base()),
             steps: self.simulation.kernel.steps(),
             ticks: self.simulation.kernel.ticks(),
             end,
@@ -149,15 +149,15 @@ impl Runner {
         };
         let base = setup.shelf.base();
         Some(Ahead {
-            told: Link::Base { from: before },
+            link: Link::Base { from: before },
             steps: base.steps,
             ticks: base.ticks,
             end: base.end,
         })
     }
 
-    // Notes the kernel that the row has reached on its way, if it may leave another mark and there is
-    // memory for it.
+    // Notes the kernel that the row has reached on its way, if it may leave another visited state and
+    // there is memory for it.
     fn note(&mut self, hint: u64)
         ensures kernel { self.new.simulation.kernel ≡ self.old.simulation.kernel }
         ensures trail { self.new.simulation.trail ≡ self.old.simulation.trail }
@@ -167,7 +167,7 @@ impl Runner {
         ensures passed { IsNoted (all_of self.old.simulation.trail) self.old.simulation.kernel
             self.old.passed.items self.new.passed.items }
     {
-        if self.passed.len() >= self.spacing.most_marks() {
+        if self.passed.len() >= self.spacing.most_visited() {
             return;
         }
         let Some(kernel) = snapshot_of(self.alloc, &self.simulation.kernel, &mut self.spent) else {
@@ -211,8 +211,8 @@ impl Runner {
     }
 
     // Runs a row to a kernel from which the rest of each row is known, or to its end. Its last
-    // injection comes before the step that it has reached. At each mark step on its way it looks
-    // for marks, and notes the kernel.
+    // injection comes before the step that it has reached. At each meeting step on its way it
+    // looks for visited states, and notes the kernel.
     fn run_on(
         &mut self,
         setup: &Setup<'_>,
@@ -232,8 +232,12 @@ impl Runner {
     {
         let limits = setup.shelf.limits();
         limits.well_formed();
-        'marks: loop {
-            let until = next_mark(self.spacing.steps(), last, self.simulation.kernel.steps());
+        'meeting_steps: loop {
+            let until = next_meeting_step(
+                self.spacing.steps(),
+                last,
+                self.simulation.kernel.steps(),
+            );
             let ending = go_far(
                 &mut self.simulation.kernel,
                 setup.app,
@@ -257,9 +261,9 @@ impl Runner {
         }
     }
 
-    // The same, from the row's first mark step on. If it doesn't pay to look for marks after that,
-    // the row is run to its end.
-    fn run_from_mark_step(
+    // The same, from the row's first meeting step on. If it doesn't pay to look for visited states
+    // after that, the row is run to its end.
+    fn run_from_meeting_step(
         &mut self,
         setup: &Setup<'_>,
         injections: &[Injection],
@@ -294,7 +298,7 @@ impl Runner {
         requires way { IsOnWay setup.now point.now self.old }
         requires beyond { end ≡ None → last_step point.now < self.old.simulation.kernel.steps }
         requires end { end ≡ end_at setup.now point.now self.old }
-        requires marks { HasMarks setup.now self.old }
+        requires visited { HasVisited setup.now self.old }
         requires legs { HasLegs setup.now self.old }
         requires passed { self.old.passed.items ≡ [] }
         requires meter { self.old.simulation.meter < 2 ^ 62 + self.old.simulation.kernel.steps }
@@ -309,7 +313,7 @@ impl Runner {
         point.well_formed();
         let injections = point.injections();
         let last = point.last_step();
-        let rest = self.run_from_mark_step(setup, injections.as_slice(), last)?;
+        let rest = self.run_from_meeting_step(setup, injections.as_slice(), last)?;
         Ok(rest)
     }
 
@@ -325,7 +329,7 @@ impl Runner {
             point: *point,
             reached: false,
             shared: shared_by(base, *setup.view),
-            told: end_of_base(base),
+            link: end_of_base(base),
             steps: base.steps,
             ticks: base.ticks,
             end: base.end,
@@ -333,25 +337,25 @@ impl Runner {
     }
 
     // The row on its way is over, with this rest and the leg of this number. The kernels that it
-    // reached are marks now.
-    fn put_marks(&mut self, number: usize, rest: &Ahead, last: u32)
+    // reached are visited states now.
+    fn put_visited(&mut self, number: usize, rest: &Ahead, last: u32)
         ensures trail { self.new.simulation.trail ≡ self.old.simulation.trail }
         ensures legs { self.new.legs ≡ self.old.legs }
-        ensures marks { ArePut number rest.now self.old.passed.items self.old.table.marks.items self.new.table.marks.items }
+        ensures visited { ArePut number rest.now self.old.passed.items self.old.table.visited.items self.new.table.visited.items }
     {
         while let Some(passed) = self.passed.pop() {
-            let told = Link::Leg {
+            let link = Link::Leg {
                 number,
                 from: passed.from,
             };
-            let mark = Mark {
+            let state = VisitedState {
                 step: passed.kernel.steps(),
                 kernel: passed.kernel,
                 hint: passed.hint,
-                rest: Ahead { told, ..*rest },
+                rest: Ahead { link, ..*rest },
             };
             let room = self.spacing.room();
-            self.table.put(mark, last, room, &mut self.spent);
+            self.table.put(state, last, room, &mut self.spent);
         }
     }
 
@@ -361,33 +365,33 @@ impl Runner {
         ensures link { IfOk result (λ link. link ≡ links.Leg (length self.old.legs.items) from) }
         ensures trail { self.new.simulation.trail ≡ self.old.simulation.trail }
         ensures legs { OnOk result (self.new.legs.items ≡ self.old.legs.items
-            ++ record { to = length (all_of self.old.simulation.trail); next = rest.now.told } ∷ []) }
-        ensures marks { OnOk result (ArePut (length self.old.legs.items) rest.now self.old.passed.items
-            self.old.table.marks.items self.new.table.marks.items) }
+            ++ record { to = length (all_of self.old.simulation.trail); next = rest.now.link } ∷ []) }
+        ensures visited { OnOk result (ArePut (length self.old.legs.items) rest.now self.old.passed.items
+            self.old.table.visited.items self.new.table.visited.items) }
     {
         let number = self.legs.len();
         let leg = Leg {
             to: self.simulation.trail.len(),
-            next: rest.told,
+            next: rest.link,
         };
         if self.legs.push(leg).is_err() {
             return Err(Memory);
         }
-        self.put_marks(number, rest, last);
+        self.put_visited(number, rest, last);
         Ok(Link::Leg { number, from })
     }
 
     // The row on its way is over, with this rest, and its events aren't kept. They leave the trail,
-    // and it gets no leg: nothing follows the link of a mark that is put here.
+    // and it gets no leg: nothing follows the link of a visited state that is put here.
     fn close_without_events(&mut self, rest: &Ahead, from: usize, last: u32)
         ensures trail { all_of self.new.simulation.trail ≡ take from (all_of self.old.simulation.trail) }
         ensures legs { self.new.legs ≡ self.old.legs }
-        ensures marks { ArePut (length self.old.legs.items) rest.now self.old.passed.items
-            self.old.table.marks.items self.new.table.marks.items }
+        ensures visited { ArePut (length self.old.legs.items) rest.now self.old.passed.items
+            self.old.table.visited.items self.new.table.visited.items }
     {
         self.simulation.trail.truncate(from);
         let number = self.legs.len();
-        self.put_marks(number, rest, last);
+        self.put_visited(number, rest, last);
     }
 
     // The row of a point that is reached, and to whose first injection the walk has come.
@@ -398,9 +402,9 @@ impl Runner {
         requires beyond { first_step point.now < setup.now.shelf.now.base.steps }
         requires reached { is_reached_in setup.now point.now ≡ true }
         requires legs { HasLegs setup.now self.old }
-        requires marks { HasMarks setup.now self.old }
+        requires visited { HasVisited setup.now self.old }
         ensures row { IfOk result (RunsRow setup.now point.now self.old self.new) }
-        ensures marks { OnOk result (HasMarks setup.now self.new) }
+        ensures visited { OnOk result (HasVisited setup.now self.new) }
     {
         let shelf = setup.shelf;
         let limits = shelf.limits();
@@ -410,7 +414,7 @@ impl Runner {
         self.spacing.begin_row(point);
         let from = self.simulation.trail.len();
         let last = point.last_step();
-        let until = first_mark(&self.spacing, point);
+        let until = first_meeting_step(&self.spacing, point);
         self.simulation.meter = Meter::new();
         let begun = shelf.begin_row_after(setup.app, point, until, walk, &mut self.simulation)?;
         let rest = self.rest(setup, point, begun.end)?;
@@ -422,18 +426,18 @@ impl Runner {
                 point: *point,
                 reached: true,
                 shared: 0,
-                told: end_of_base(base),
+                link: end_of_base(base),
                 steps: rest.steps,
                 ticks: rest.ticks,
                 end: rest.end,
             });
         }
-        let told = self.close(&rest, from, last)?;
+        let link = self.close(&rest, from, last)?;
         Ok(KeptRow {
             point: *point,
             reached: true,
             shared: begun.before,
-            told,
+            link,
             steps: rest.steps,
             ticks: rest.ticks,
             end: rest.end,
@@ -451,10 +455,10 @@ impl Runner {
         requires walk { IsWalkOf setup.now walk.old }
         requires beyond { first_step point.now < setup.now.shelf.now.base.steps }
         requires legs { HasLegs setup.now self.old }
-        requires marks { HasMarks setup.now self.old }
+        requires visited { HasVisited setup.now self.old }
         ensures walk { OnOk result (IsWalkOf setup.now walk.new) }
         ensures row { IfOk result (RunsRow setup.now point.now self.old self.new) }
-        ensures marks { OnOk result (HasMarks setup.now self.new) }
+        ensures visited { OnOk result (HasVisited setup.now self.new) }
     {
         self.simulation.meter = Meter::new();
         let shelf = setup.shelf;
@@ -478,10 +482,10 @@ impl Runner {
         requires setup { IsSetup setup.now }
         requires walk { IsWalkOf setup.now walk.old }
         requires legs { HasLegs setup.now self.old }
-        requires marks { HasMarks setup.now self.old }
+        requires visited { HasVisited setup.now self.old }
         ensures walk { OnOk result (IsWalkOf setup.now walk.new) }
         ensures row { IfOk result (RunsRow setup.now point.now self.old self.new) }
-        ensures marks { OnOk result (HasMarks setup.now self.new) }
+        ensures visited { OnOk result (HasVisited setup.now self.new) }
     {
         if setup.shelf.gets_to(point) {
             self.beyond(setup, point, walk)

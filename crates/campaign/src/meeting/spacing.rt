@@ -1,6 +1,6 @@
-//! How far after its last injection a row looks for marks first, and how many steps are between two
-//! marks near it.
-use crate::meeting::mark_steps::spacing_of;
+//! How far after its last injection a row looks for visited states first, and how many steps are
+//! between two meeting steps near it.
+use crate::meeting::meeting_steps::spacing_of;
 use crate::meeting::timers::Timers;
 use model::Point;
 
@@ -17,7 +17,7 @@ const PLANS: usize = 8;
 
 impl Plan {
     // What is tried. What a handler has brought about usually fades after some steps, and a row
-    // that looks sooner finds no mark.
+    // that looks sooner finds no visited state.
     fn numbered(number: usize) -> Plan {
         let (halvings, eighths) = match number {
             0 => (0, 0),
@@ -44,39 +44,40 @@ const ROWS: u32 = 64;
 // This often as many rows look in the best way, before all are tried again.
 const TURNS: u32 = 256;
 
-// This many steps cost as much as a look that finds no mark, and the one that it leaves.
-const MARK: u32 = 20;
+// This many steps cost as much as a look that finds no visited state, and the one that it leaves.
+const COST_OF_A_LOOK: u32 = 20;
 
 // Of a row at most this many count: few rows of a worker are run far, and which places these look at
 // first hardly matters.
 const MOST: u32 = 512;
 
-// This many marks are kept at least: with all else that a row touches they stay in the cache that a
-// processor has for itself. A mark is written where another one was, which would be out of that
-// cache if there were three times as many.
-const FEWEST_MARKS: u32 = 128;
+// This many visited states are kept at least: with all else that a row touches they stay in the
+// cache that a processor has for itself. One is written where another one was, which would be out of
+// that cache if there were three times as many.
+const FEWEST_STATES: u32 = 128;
 
 // At most this many: with few tasks they take some 30 MB, with 32 some 55 MB.
-const MOST_MARKS: u32 = 8192;
+const MOST_STATES: u32 = 8192;
 
 // One more is kept for so much that `ROWS` rows cost.
-const COST_OF_A_MARK: u32 = 4;
+const COST_OF_A_STATE: u32 = 4;
 
 // Beyond this, which is 12 steps of each row. Rows that cost little more meet rows of a moment ago.
 const FREE: u32 = 768;
 
-// A row of a timer leaves at most this many marks. Others of the same phase find the first of them.
+// A row of a timer leaves at most this many visited states. Others of the same phase find the first
+// of them.
 // If a row that is run far left many, they would take the places of these.
-const MARKS_OF_A_PHASE: usize = 8;
+const STATES_OF_A_PHASE: usize = 8;
 
-// Of rows of timers so many marks are kept for each step of their spacing. They usually leave one
-// or two in each, and reach those of the next period.
-const MARKS_OF_A_STEP: u32 = 4;
+// Of rows of timers so many visited states are kept for each step of their spacing. They usually
+// leave one or two in each, and reach those of the next period.
+const STATES_OF_A_STEP: u32 = 4;
 
 // And this many for the rows of a short block.
-const MARKS_OF_A_BLOCK: u32 = 256;
+const STATES_OF_A_BLOCK: u32 = 256;
 
-/// How many marks are kept, and which are replaced when there are so many.
+/// How many visited states are kept, and which are replaced when there are so many.
 #[derive(Clone, Copy)]
 pub(crate) struct Room {
     pub(crate) most: usize,
@@ -84,8 +85,8 @@ pub(crate) struct Room {
     pub(crate) is_queue: bool,
 }
 
-/// How many steps are between two marks near an injection, and how far after it a row looks for one
-/// first. Each way to look is tried with many rows. The one with which they cost least is kept for
+/// How many steps are between two meeting steps near an injection, and how far after it the first one
+/// is. Each way to look is tried with many rows. The one with which they cost least is kept for
 /// long, and then all are tried again.
 ///
 /// Rows of timers look once in a period, and aren't judged.
@@ -105,13 +106,13 @@ pub(crate) struct Spacing {
     turns: u32,
     rows: u32,
     cost: u32,
-    // How many marks are kept at most.
+    // How many visited states are kept at most.
     room: u32,
 }
 
 impl Spacing {
-    /// The first way that is tried: marks are widest apart, if the base run has a stop before each
-    /// `stride`-th step.
+    /// The first way that is tried: meeting steps are widest apart, if the base run has a checkpoint
+    /// before each `stride`-th step.
     pub(crate) fn new(stride: u32, timers: Timers) -> Spacing {
         let widest = spacing_of(stride);
         Spacing {
@@ -126,11 +127,11 @@ impl Spacing {
             turns: 0,
             rows: 0,
             cost: 0,
-            room: FEWEST_MARKS,
+            room: FEWEST_STATES,
         }
     }
 
-    /// How many steps are between two marks near an injection, if these are closest together.
+    /// How many steps are between two meeting steps near an injection, if these are closest together.
     pub(crate) fn closest(&self) -> u32 {
         self.widest >> MOST_HALVINGS
     }
@@ -154,22 +155,22 @@ impl Spacing {
         if self.phase > 0 { 0 } else { self.delay }
     }
 
-    /// How many marks that row leaves at most.
-    pub(crate) fn most_marks(&self) -> usize {
+    /// How many visited states that row leaves at most.
+    pub(crate) fn most_visited(&self) -> usize {
         if self.phase > 0 {
-            MARKS_OF_A_PHASE
+            STATES_OF_A_PHASE
         } else {
             usize::MAX
         }
     }
 
-    /// How many marks are kept at most. If rows cost little, they reach marks that were left a
-    /// moment ago, and a mark that was left long ago is only in the way of these in a processor's
-    /// cache. If rows are run far, each mark that is found saves many steps.
+    /// How many visited states are kept at most. If rows cost little, they reach states that were
+    /// left a moment ago, and a state that was left long ago is only in the way of these in a
+    /// processor's cache. If rows are run far, each state that is found saves many steps.
     pub(crate) fn room(&self) -> Room {
         let most = if self.phase > 0 {
-            let marks = self.phase.saturating_mul(MARKS_OF_A_STEP);
-            marks.saturating_add(MARKS_OF_A_BLOCK).min(MOST_MARKS)
+            let visited = self.phase.saturating_mul(STATES_OF_A_STEP);
+            visited.saturating_add(STATES_OF_A_BLOCK).min(MOST_STATES)
         } else {
             self.room
         };
@@ -179,14 +180,14 @@ impl Spacing {
         }
     }
 
-    /// A row did this many steps after its last injection, and left this many marks. After many
-    /// rows their cost is judged.
-    pub(crate) fn count_row(&mut self, steps: u32, marks: usize) {
+    /// A row did this many steps after its last injection, and left this many visited states. After
+    /// many rows their cost is judged.
+    pub(crate) fn count_row(&mut self, steps: u32, visited: usize) {
         if self.phase > 0 {
             return;
         }
-        let marks = (marks.min(MOST as usize) as u32).saturating_mul(MARK);
-        let cost = steps.saturating_add(marks).min(MOST);
+        let visited = (visited.min(MOST as usize) as u32).saturating_mul(COST_OF_A_LOOK);
+        let cost = steps.saturating_add(visited).min(MOST);
         self.cost = self.cost.saturating_add(cost);
         self.rows = self.rows.saturating_add(1);
         if self.rows >= ROWS {
@@ -225,7 +226,7 @@ impl Spacing {
             self.follow(self.best);
             self.turns = TURNS;
             let counted = self.least.saturating_sub(FREE);
-            self.room = (counted / COST_OF_A_MARK).clamp(FEWEST_MARKS, MOST_MARKS);
+            self.room = (counted / COST_OF_A_STATE).clamp(FEWEST_STATES, MOST_STATES);
         }
     }
 }

@@ -8,14 +8,14 @@ use report::View;
 // An application has at most this many handlers.
 const HANDLERS: usize = 16;
 
-// Marks near an injection are at least so many steps apart: a mark costs more than a few steps.
+// Meeting steps near an injection are at least so many steps apart: each costs more than a few steps.
 const NARROWEST: u32 = 8;
 
 // They are at most this far apart.
 const WIDEST: u32 = 2048;
 
-/// How many steps are between two marks near an injection of each handler, if it raises itself and
-/// is injected before each of some steps: about a period. 0 for the others.
+/// How many steps are between two meeting steps near an injection of each handler, if it raises
+/// itself and is injected before each of some steps: about a period. 0 for the others.
 #[derive(Clone, Copy)]
 pub(crate) struct Timers {
     spacings: [u32; HANDLERS],
@@ -105,7 +105,7 @@ impl Timers {
         widest
     }
 
-    /// The spacing of marks after an injection of the handler of this number; 0 if it is no timer.
+    /// The spacing of meeting steps after an injection of the handler of this number; 0 if it is no timer.
     pub(crate) fn spacing(&self, number: u8) -> u32 {
         self.spacings.get(number as usize).copied().unwrap_or(0)
     }

@@ -9,8 +9,8 @@ use Rattle.campaign.proofs.bytes_to_report.serve.Goals as goal
 pub returns-in_err-app : goal.returns-in_err-app
 returns-in_err-app g c =
     let fault = c.in_err-app.field-0.0 in
-    let told : c.from_residual.result ≡ Err fault = search rules in
-    rw told
+    let outcome : c.from_residual.result ≡ Err fault = search rules in
+    rw outcome
     (campaign_serves_file_fault c.args.view c.args.shard (g.R.Source.left c.args.reader.now) _ _ _
     fault c.in_err-app.ensures.app (c.in_err-app.ensures.read ∙ same_read Application Totals fault)
     (same_write Application Totals fault ∙ c.in_err-app.ensures.write) c.requires.writes)

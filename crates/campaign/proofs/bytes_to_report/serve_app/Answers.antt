@@ -12,8 +12,8 @@ use Rattle.campaign.proofs.bytes_to_report.serve_app.Goals as goal
 
 pub returns-in_err-report : goal.returns-in_err-report
 returns-in_err-report g c input bytes known file =
-    let told : c.from_residual.result ≡ Err c.in_err-report.field-0.0 = search rules in
-    rw told
+    let outcome : c.from_residual.result ≡ Err c.in_err-report.field-0.0 = search rules in
+    rw outcome
     (campaign_serves_rows_fault c.args.request.now.view c.args.request.now.shard input false
     (g.W.Sink.has_failed c.args.writer.now) (g.W.Sink.held c.args.writer.now) c.in_err-report.field-0.0
     c.args.app.now (bytes, known, file) c.in_err-report.ensures refl c.requires)
@@ -32,8 +32,8 @@ returns-in_err-write_report_in_threads g c input bytes known file =
     let sent =
     subst (SentFront (g.W.Sink.held c.args.writer.now) (g.W.Sink.held c.write_report_in_threads.new.writer))
     whole c.in_err-write_report_in_threads.ensures.text in
-    let told : c.from_residual-in_err-write_report_in_threads.result ≡ Err Write = search rules in
-    rw told
+    let outcome : c.from_residual-in_err-write_report_in_threads.result ≡ Err Write = search rules in
+    rw outcome
     (serves_front _ _ _ _ _ _ _ bytes _ _ known is sent refl c.in_err-write_report_in_threads.ensures.failed)
 
 pub returns : goal.returns

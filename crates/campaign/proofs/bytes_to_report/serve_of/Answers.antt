@@ -8,8 +8,8 @@ pub returns-in_err-app : goal.returns-in_err-app
 returns-in_err-app g c =
     let bytes = c.args.bytes.now in
     let fault = c.in_err-app.field-0.0 in
-    let told : c.from_residual.result ≡ Err fault = search rules in
-    rw told
+    let outcome : c.from_residual.result ≡ Err fault = search rules in
+    rw outcome
     (campaign_serves_file_fault c.args.view c.args.shard (Some bytes) _ _ _ fault
     (bytes, refl, c.in_err-app.ensures.app) (sym c.in_err-app.ensures.read ∙ same_read Application Totals fault)
     (same_write Application Totals fault ∙ c.in_err-app.ensures.write) c.requires)

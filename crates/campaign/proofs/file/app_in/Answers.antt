@@ -13,8 +13,8 @@ returns-in-Err-clause-app c =
 
 pub returns-in_err-app-clause-app : goal.returns-in_err-app-clause-app
 returns-in_err-app-clause-app c =
-    let told : c.from_residual.result ≡ Err (of_loading c.in_err-app.field-0.0) = search rules in
+    let outcome : c.from_residual.result ≡ Err (of_loading c.in_err-app.field-0.0) = search rules in
     let is : IsDocument c.args.bytes.now (table_view c.in-Ok.document) =
     record { utf8 = c.in-Ok.ensures.ok.0; parsed = c.in-Ok.ensures.ok.1 } in
-    rw told (loading_failed c.args.bytes.now (table_view c.in-Ok.document)
+    rw outcome (loading_failed c.args.bytes.now (table_view c.in-Ok.document)
     c.in_err-app.field-0.0 is c.in_err-app.ensures)

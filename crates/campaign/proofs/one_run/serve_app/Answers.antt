@@ -8,8 +8,8 @@ use Rattle.campaign.proofs.one_run.serve_app.Goals as goal
 
 pub returns-in_err-title : goal.returns-in_err-title
 returns-in_err-title g c input bytes known file =
-    let told : c.from_residual.result ≡ Err c.in_err-title.field-0.0 = search rules in
-    rw told
+    let outcome : c.from_residual.result ≡ Err c.in_err-title.field-0.0 = search rules in
+    rw outcome
     (serves_run_fault c.args.asked input false (g.W.Sink.has_failed c.args.writer.now) (g.W.Sink.held c.args.writer.now)
     c.in_err-title.field-0.0 c.args.app.now (bytes, known, file) c.in_err-title.ensures refl c.requires)
 
@@ -20,8 +20,8 @@ returns-in_err-write_run g c input bytes known file =
     let run = c.in_ok-title.run' in
     let is : IsReportOf c.args.asked bytes (run_text app title run) run.end =
     record { app = app; file = file; title = title; run = run; runs = c.in_ok-title.ensures; ends = refl; text = refl } in
-    let told : c.from_residual-in_err-write_run.result ≡ Err Write = search rules in
-    rw told
+    let outcome : c.from_residual-in_err-write_run.result ≡ Err Write = search rules in
+    rw outcome
     (serves_front _ _ _ _ _ _ _ bytes _ _ known is c.in_err-write_run.ensures.text refl c.in_err-write_run.ensures.failed)
 
 pub returns : goal.returns

@@ -26,7 +26,7 @@ loop-init g c =
           record {
             rows = rw none tt;
             legs = without_legs shelf.base.events (store_in worker.runner) new.legs;
-            marked = rw new.marks tt;
+            are_visited = rw new.visited tt;
           };
       worked =
           none_worked (work_of c.args.setup.now c.args.job.lane.game.lengths)
@@ -90,6 +90,6 @@ returns g c = elim c.match-next.branch [
       subst (λ (l : List ℕ).
       HasWorked work c.loop.worker.kept (store_in c.loop.worker.runner) c.loop.worker.blocks.items l c.args.job.seat c.loop.seat)
       (sym next.0) c.loop.invariant.worked in
-      rw (c.into_told-trail.ensures, w.lane-is, w.seat-is, w.worker-is)
+      rw (c.into_trail_and_legs-trail.ensures, w.lane-is, w.seat-is, w.worker-is)
       (done_whole work c.args.job _ (w.next-in-loop.ensures.goes.0 ∙ c.loop.invariant.game) next.1 worked)
 ]

@@ -23,4 +23,4 @@ returns-clause-known c =
     let setup = c.args.setup.now in
     let shelf = setup.shelf.now in
     knows_more setup.app.now shelf.limits setup.view.now shelf.base (c.args.point.now ∷ [])
-    _ _ _ _ _ _ _ _ c.requires.known (returns-clause-row c) c.in_ok-outcome.ensures.marks
+    _ _ _ _ _ _ _ _ c.requires.known (returns-clause-row c) c.in_ok-outcome.ensures.visited

@@ -1,7 +1,7 @@
 use Rattle.std.proofs.Common.{◌≡◌, ◌∷◌, ◌++◌, ◌∙◌, [], sym}
 use Rattle.machine.specs.Logged.{all_of}
-use Rattle.campaign.specs.declared.meeting.mark.Passed.{Passed}
-use Rattle.campaign.specs.Marks.{IsBehind}
+use Rattle.campaign.specs.declared.meeting.visited_state.Passed.{Passed}
+use Rattle.campaign.specs.Visited.{IsBehind}
 use Rattle.campaign.proofs.Blocks.{pushed_at}
 use Rattle.campaign.proofs.GoingOn.{all_more, behind_here}
 use Rattle.campaign.proofs.meeting.runner.Runner.note.Goals as goal

@@ -1,25 +1,25 @@
 use Rattle.std.proofs.Common.{◌≡◌, ◌∙◌, [], length, ap, append-nil, refl, subst, sym}
 use Rattle.machine.specs.Logged.{all_of}
 use Rattle.model.specs.Run.{Run}
-use Rattle.rows.specs.declared.link.Link.TheVariants as link
-use Rattle.campaign.specs.declared.meeting.mark_table.MarkTable.{MarkTable}
+use Rattle.rows.specs.declared.link.Link.TheVariants as links
+use Rattle.campaign.specs.declared.meeting.visited_states.VisitedStates.{VisitedStates}
 use Rattle.rows.specs.Links.{Grows, Store}
-use Rattle.campaign.specs.Marks.{AreMarked}
+use Rattle.campaign.specs.Visited.{AreVisited}
 use Rattle.campaign.specs.Working.{store_in, IsRestOf}
-use Rattle.campaign.proofs.GoingOn.{all_bare, all_closed, still_marked}
+use Rattle.campaign.proofs.GoingOn.{all_bare, all_closed, still_visited}
 use Rattle.campaign.proofs.Keeping.{bare_row, its_legs, reached_row}
 use Rattle.rows.proofs.Linked.{same_legs}
 use Rattle.campaign.proofs.meeting.runner.Runner.reached.Goals as goal
 
-pub rest-requires-clause-marks : goal.rest-requires-clause-marks
-rest-requires-clause-marks c =
+pub rest-requires-clause-visited : goal.rest-requires-clause-visited
+rest-requires-clause-visited c =
     let shelf = c.args.setup.now.shelf.now in
     let begun = c.in_ok-begun.ensures.begun in
     let old = store_in c.args.self.now in
     let mid : Store = record { trail = all_of c.begin_row_after.new.simulation.trail; legs = c.args.self.now.legs.items } in
     let grown : Grows old mid = record { own = begun.own; trail = begun.kept; more = []; legs = sym (append-nil old.legs) } in
-    still_marked c.args.setup.now.app.now shelf.limits c.args.setup.now.view.now shelf.base old mid
-    c.requires.legs grown c.args.self.now.table.marks.items c.requires.marks
+    still_visited c.args.setup.now.app.now shelf.limits c.args.setup.now.view.now shelf.base old mid
+    c.requires.legs grown c.args.self.now.table.visited.items c.requires.visited
 
 pub rest-requires-clause-legs : goal.rest-requires-clause-legs
 rest-requires-clause-legs c =
@@ -34,7 +34,7 @@ returns-clause-row c =
     let shelf = c.args.setup.now.shelf.now in
     let begun = c.in_ok-begun.ensures in
     let rest = c.in_ok-rest.ensures in
-    let closed = c.in_ok-told.ensures in
+    let closed = c.in_ok-link.ensures in
     let mid : Store = record { trail = all_of c.begin_row_after.new.simulation.trail; legs = c.args.self.now.legs.items } in
     let over = store_in c.rest.new.self in
     let goes : IsRestOf c.args.setup.now.app.now shelf.limits c.args.setup.now.view.now shelf.base
@@ -47,14 +47,14 @@ returns-clause-row c =
     (sym c.shows_events.ensures ∙ c.if-not-shows_events.false)
     (ap all_of closed.trail) closed.legs _ c.len-from.ensures _ closed.link
 
-pub returns-clause-marks : goal.returns-clause-marks
-returns-clause-marks c =
+pub returns-clause-visited : goal.returns-clause-visited
+returns-clause-visited c =
     let app = c.args.setup.now.app.now in
     let view = c.args.setup.now.view.now in
     let shelf = c.args.setup.now.shelf.now in
     let begun = c.in_ok-begun.ensures in
     let rest = c.in_ok-rest.ensures in
-    let closed = c.in_ok-told.ensures in
+    let closed = c.in_ok-link.ensures in
     let mid : Store = record { trail = all_of c.begin_row_after.new.simulation.trail; legs = c.args.self.now.legs.items } in
     let over = store_in c.rest.new.self in
     let new = store_in c.close.new.self in
@@ -66,10 +66,10 @@ returns-clause-marks c =
     (store_in c.args.self.now) mid over c.begin_row_after.new.simulation.kernel c.in_ok-begun.begun
     c.requires.legs begun.begun refl c.in_ok-rest.rest goes (ap (λ v. v.items) rest.legs) in
     let still =
-    still_marked app shelf.limits view shelf.base (store_in c.args.self.now) new c.requires.legs
-    (returns-clause-row c).grows c.args.self.now.table.marks.items c.requires.marks in
-    let before = subst (λ (t : MarkTable). AreMarked app shelf.limits view shelf.base new t.marks.items) (sym rest.table) still in
-    closed.marks app shelf.limits view shelf.base new before
+    still_visited app shelf.limits view shelf.base (store_in c.args.self.now) new c.requires.legs
+    (returns-clause-row c).grows c.args.self.now.table.visited.items c.requires.visited in
+    let before = subst (λ (t : VisitedStates). AreVisited app shelf.limits view shelf.base new t.visited.items) (sym rest.table) still in
+    closed.visited app shelf.limits view shelf.base new before
     (all_closed app shelf.limits view shelf.base over new c.in_ok-rest.rest legs
     (ap all_of closed.trail) closed.legs c.rest.new.self.passed.items rest.passed)
 
@@ -84,16 +84,16 @@ returns-then-not-shows_events-clause-row c =
     let goes : IsRestOf c.args.setup.now.app.now shelf.limits c.args.setup.now.view.now shelf.base
     mid over c.args.point.now c.begin_row_after.new.simulation.kernel c.in_ok-rest.rest =
     rest.rest in
-    let told = subst (λ (b : Run). c.end_of_base.result ≡ link.Base (length b.events)) c.base-base.ensures c.end_of_base.ensures in
+    let at_end = subst (λ (b : Run). c.end_of_base.result ≡ links.Base (length b.events)) c.base-base.ensures c.end_of_base.ensures in
     bare_row c.args.setup.now.app.now shelf.limits c.args.setup.now.view.now shelf.base c.requires.setup.is_base
     c.args.point.now (store_in c.args.self.now) mid over c.begin_row_after.new.simulation.kernel c.in_ok-begun.begun
     c.requires.legs begun.begun refl c.in_ok-rest.rest goes (ap (λ v. v.items) rest.legs)
     (store_in c.close_without_events.new.self) c.requires.reached
     (sym c.shows_events.ensures ∙ c.if-not-shows_events.true) _
-    c.len-from.ensures closed.trail (ap (λ v. v.items) closed.legs) _ told
+    c.len-from.ensures closed.trail (ap (λ v. v.items) closed.legs) _ at_end
 
-pub returns-then-not-shows_events-clause-marks : goal.returns-then-not-shows_events-clause-marks
-returns-then-not-shows_events-clause-marks c =
+pub returns-then-not-shows_events-clause-visited : goal.returns-then-not-shows_events-clause-visited
+returns-then-not-shows_events-clause-visited c =
     let app = c.args.setup.now.app.now in
     let view = c.args.setup.now.view.now in
     let shelf = c.args.setup.now.shelf.now in
@@ -102,9 +102,9 @@ returns-then-not-shows_events-clause-marks c =
     let over = store_in c.rest.new.self in
     let new = store_in c.close_without_events.new.self in
     let still =
-    still_marked app shelf.limits view shelf.base (store_in c.args.self.now) new c.requires.legs
-    (returns-then-not-shows_events-clause-row c).grows c.args.self.now.table.marks.items c.requires.marks in
-    let before = subst (λ (t : MarkTable). AreMarked app shelf.limits view shelf.base new t.marks.items) (sym rest.table) still in
-    closed.marks app shelf.limits view shelf.base new before
+    still_visited app shelf.limits view shelf.base (store_in c.args.self.now) new c.requires.legs
+    (returns-then-not-shows_events-clause-row c).grows c.args.self.now.table.visited.items c.requires.visited in
+    let before = subst (λ (t : VisitedStates). AreVisited app shelf.limits view shelf.base new t.visited.items) (sym rest.table) still in
+    closed.visited app shelf.limits view shelf.base new before
     (all_bare app shelf.limits view shelf.base over new _ c.in_ok-rest.rest
     (sym c.shows_events.ensures ∙ c.if-not-shows_events.true) c.rest.new.self.passed.items rest.passed)

@@ -2,8 +2,8 @@ use Rattle.std.proofs.Common.{◌≡◌, ◌+◌, ◌-◌, None}
 use Rattle.campaign.specs.Running.{HasPassed, IsLedOn, IsPastAll, end_at}
 use Rattle.campaign.proofs.meeting.runner.Runner.run_on.Given as goal
 
-abbrev pub invariant-marks : goal.invariant-marks
-invariant-marks l = record {
+abbrev pub invariant-meeting_steps : goal.invariant-meeting_steps
+invariant-meeting_steps l = record {
   led : IsLedOn l.setup l.fn.self l.self;
   past : IsPastAll l.setup l.injections l.self;
   goes : end_at l.setup l.injections l.self ≡ None;
@@ -13,5 +13,5 @@ invariant-marks l = record {
   meter : l.self.simulation.meter + l.fn.self.simulation.kernel.steps ≡ l.fn.self.simulation.meter + l.self.simulation.kernel.steps;
 }
 
-abbrev pub decreases-marks : goal.decreases-marks
-decreases-marks l = l.setup.shelf.now.limits.steps - l.self.simulation.kernel.steps
+abbrev pub decreases-meeting_steps : goal.decreases-meeting_steps
+decreases-meeting_steps l = l.setup.shelf.now.limits.steps - l.self.simulation.kernel.steps

@@ -4,10 +4,10 @@ use Rattle.std.proofs.lemmas.Option.{slice_get_within}
 use Rattle.std.proofs.lemmas.Result.{MatchResult-from_err}
 use Rattle.byte_io.proofs.Sending.{Sent_none}
 use Rattle.report.specs.Text.{event_text}
-use Rattle.rows.specs.Links.{told_at}
+use Rattle.rows.specs.Links.{linked_events}
 use Rattle.rows.specs.Report.{store_of}
-use Rattle.rows.proofs.Telling.{last_sent, leg_sent, leg_stopped}
-use Rattle.rows.proofs.writing.add_told.Goals as goal
+use Rattle.rows.proofs.LegByLeg.{last_sent, leg_sent, leg_stopped}
+use Rattle.rows.proofs.writing.add_linked_events.Goals as goal
 
 pub legs-init : goal.legs-init
 legs-init g c = record {
@@ -60,7 +60,7 @@ returns-in-Base-clause-text g c =
     let i = c.legs.invariant in
     let f = event_text c.args.text.now.app in
     let base = c.args.events.now.base.now.events in
-    let all = flat_map f (told_at base (store_of c.args.events.now.part.now) c.args.first) in
+    let all = flat_map f (linked_events base (store_of c.args.events.now.part.now) c.args.first) in
     let sent = rw c.in-Base.is at i.sent in
     let added = rw (i.app, c.requires.events.base_is) at c.add_base_from.ensures.text in
     last_sent _ _ _ c.args.text.now.page all c.legs.text.page (flat_map f (drop c.in-Base.from base)) _ _ sent added

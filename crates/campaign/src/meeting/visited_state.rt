@@ -1,5 +1,5 @@
-//! Kernels that rows have reached, and how they went on from there: rows that reach the same kernel
-//! go on alike.
+//! Visited states: kernels that rows have reached, and how they went on from there. Rows that reach
+//! the same kernel go on alike.
 use crate::meeting::ahead::Ahead;
 use kernel::Snapshot;
 
@@ -7,7 +7,7 @@ use kernel::Snapshot;
 /// went on from there. Each row that reaches the same kernel goes on in the same way. The hint and
 /// the step are that kernel's.
 #[derive(Drop)]
-pub(crate) struct Mark {
+pub(crate) struct VisitedState {
     pub(crate) kernel: Box<Snapshot>,
     pub(crate) hint: u64,
     pub(crate) step: u32,
@@ -15,7 +15,7 @@ pub(crate) struct Mark {
 }
 
 /// A kernel that the row on its way has reached, after its last injection, and where its events
-/// from there on begin in the trail. It becomes a mark when the row is over.
+/// from there on begin in the trail. It becomes a visited state when the row is over.
 #[derive(Drop)]
 pub(crate) struct Passed {
     pub(crate) kernel: Box<Snapshot>,

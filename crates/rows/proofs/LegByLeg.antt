@@ -1,4 +1,4 @@
--- Events behind a link, which are written leg by leg.
+-- Events that follow a link, which are written leg by leg.
 use Rattle.std.specs.List.{flat_map}
 use Rattle.std.proofs.Common.{◌≡◌, ◌∙◌, ◌++◌, ℕ, List, Option, Some, Result, Ok, Err, slice_get, slice_range, ap, subst, sym}
 use Rattle.std.proofs.Common.{append_assoc}
@@ -9,9 +9,9 @@ use Rattle.model.specs.declared.event.Event.{Event}
 use Rattle.model.specs.Application.{Application}
 use Rattle.report.specs.Text.{event_text}
 use Rattle.rows.specs.declared.link.Leg.{Leg}
-use Rattle.rows.specs.declared.link.Link.TheVariants as link
-use Rattle.rows.specs.Links.{Store, told_at, AreLegs}
-use Rattle.rows.proofs.Linked.{told_on}
+use Rattle.rows.specs.declared.link.Link.TheVariants as links
+use Rattle.rows.specs.Links.{Store, linked_events, AreLegs}
+use Rattle.rows.proofs.Linked.{linked_on}
 
 -- The text of a row: its head line, the events with which it begins, and those with which it goes on.
 pub row_parts : (f : Event → List ℕ) (head : List ℕ) (xs ys : List Event)
@@ -28,7 +28,7 @@ last_sent a b c page whole mid text kept (Err e) first second = SentFront_then a
 module _ (app : Application) (base : List Event) (store : Store) (legs : AreLegs base store)
     (number from : ℕ) (leg : Leg) (at : slice_get store.legs number ≡ Some leg)
     (a b c : Option (List ℕ)) (whole page : List ℕ)
-    (sent : Sent a b whole (page ++ flat_map (event_text app) (told_at base store (link.Leg number from)))) where
+    (sent : Sent a b whole (page ++ flat_map (event_text app) (linked_events base store (links.Leg number from)))) where
   abbrev text : List Event → List ℕ
   text events = flat_map (event_text app) events
 
@@ -36,18 +36,18 @@ module _ (app : Application) (base : List Event) (store : Store) (legs : AreLegs
   here = slice_range store.trail from leg.to
 
   abbrev behind : List Event
-  behind = told_at base store leg.next
+  behind = linked_events base store leg.next
 
-  both : (page ++ text here) ++ text behind ≡ page ++ text (told_at base store (link.Leg number from))
+  both : (page ++ text here) ++ text behind ≡ page ++ text (linked_events base store (links.Leg number from))
   both = append_assoc page (text here) (text behind)
       ∙ ap (λ (t : List ℕ). page ++ t)
-      (sym (ap text (told_on base store legs number from leg at) ∙ flat_map-append (event_text app) here behind))
+      (sym (ap text (linked_on base store legs number from leg at) ∙ flat_map-append (event_text app) here behind))
 
   -- the events of a leg are added, and those behind it are left
   pub leg_sent : (mid : List ℕ) → Sent b c (page ++ text here) mid → Sent a c whole (mid ++ text behind)
-  leg_sent mid second = Sent_then a b c whole (page ++ text (told_at base store (link.Leg number from))) (mid ++ text behind) sent
+  leg_sent mid second = Sent_then a b c whole (page ++ text (linked_events base store (links.Leg number from))) (mid ++ text behind) sent
       (subst (λ (t : List ℕ). Sent b c t (mid ++ text behind)) both (Sent_longer b c (page ++ text here) mid (text behind) second))
 
   pub leg_stopped : SentFront b c (page ++ text here) → SentFront a c whole
-  leg_stopped second = SentFront_then a b c whole (page ++ text (told_at base store (link.Leg number from))) sent
+  leg_stopped second = SentFront_then a b c whole (page ++ text (linked_events base store (links.Leg number from))) sent
       (subst (λ (t : List ℕ). SentFront b c t) both (SentFront_longer b c (page ++ text here) (text behind) second))

@@ -1,6 +1,6 @@
 use Rattle.std.proofs.Common.{◌≡◌, ◌∷◌, ◌++◌, [], rules}
 use Rattle.campaign.proofs.GoingOn.{right_then}
-use Rattle.campaign.proofs.meeting.runner.Runner.put_marks.Goals as goal
+use Rattle.campaign.proofs.meeting.runner.Runner.put_visited.Goals as goal
 
 pub loop-passed-preserved : goal.loop-passed-preserved
 loop-passed-preserved c =
@@ -10,7 +10,7 @@ loop-passed-preserved c =
       trail = c.loop-passed.invariant.trail;
       legs = c.loop-passed.invariant.legs;
       right =
-          right_then c.args.number c.args.rest.now c.args.self.now.passed.items c.args.self.now.table.marks.items
-          c.loop-passed.self.passed.items c.loop-passed.self.table.marks.items
-          c.in-Some.passed step c.pop.new.self.items c.put.new.self.marks.items c.loop-passed.invariant.right popped c.put.ensures;
+          right_then c.args.number c.args.rest.now c.args.self.now.passed.items c.args.self.now.table.visited.items
+          c.loop-passed.self.passed.items c.loop-passed.self.table.visited.items
+          c.in-Some.passed step c.pop.new.self.items c.put.new.self.visited.items c.loop-passed.invariant.right popped c.put.ensures;
     }

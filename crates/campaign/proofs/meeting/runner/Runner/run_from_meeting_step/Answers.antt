@@ -1,4 +1,4 @@
-use Rattle.campaign.proofs.meeting.runner.Runner.run_from_mark_step.Goals as goal
+use Rattle.campaign.proofs.meeting.runner.Runner.run_from_meeting_step.Goals as goal
 
 pub run_on-requires-clause-passed : goal.run_on-requires-clause-passed
 run_on-requires-clause-passed c =
