@@ -25,10 +25,13 @@ use std::thread::Threads;
 /// What is asked for of a campaign: what is shown of its rows, which part of them, and how they are
 /// made.
 #[derive(Clone, Copy)]
-struct Request {
-    view: View,
-    shard: Shard,
-    options: Options,
+pub struct Request {
+    /// What is shown of the rows.
+    pub view: View,
+    /// Which part of them is made.
+    pub shard: Shard,
+    /// How they are made. The report doesn't depend on it.
+    pub options: Options,
 }
 
 impl From<ExpandFault> for ServeFault {
@@ -75,11 +78,12 @@ fn threads_of(options: Options) -> usize
     options.workers.clamp(1, Options::MOST_WORKERS) as usize
 }
 
-// How many steps are between two stops of the base run: as many as are asked for, and eight times
-// as many if the report isn't a whole one. There it is of no use that a row goes on as the base run
-// does, and not as another row, so most stops would only take memory. If timers are injected they
-// are four times as many: a worker goes to the first point of each short block from the stop before.
-fn steps_between_stops(options: Options, view: View, timers: bool) -> u32
+// How many steps are between two checkpoints of the base run: as many as are asked for, and eight
+// times as many if the report isn't a whole one. There it is of no use that a row goes on as the
+// base run does, and not as another row, so most checkpoints would only take memory. If timers are
+// injected they are four times as many: a worker goes to the first point of each short block from
+// the checkpoint before.
+fn steps_between_checkpoints(options: Options, view: View, timers: bool) -> u32
     ensures some { 0 < result }
     ensures near { result ≤ 65536 }
 {
@@ -122,7 +126,7 @@ fn report_of<R: Threads + Wait + Sync, G: Gate + Sync>(
         shard,
         options,
     } = *request;
-    let stride = steps_between_stops(options, view, has_timers(app, &view));
+    let stride = steps_between_checkpoints(options, view, has_timers(app, &view));
     let shelf = Shelf::make(alloc, app, app.limits(), stride)?;
     let points = expand(alloc, app, shelf.base())?;
     let first = shard.first(points.len());
@@ -144,7 +148,7 @@ fn report_of<R: Threads + Wait + Sync, G: Gate + Sync>(
 }
 
 // Makes the rows of an application, and writes the report of them, as the last thing it does.
-fn serve_app<T: Threads + Wait + Sync, W: Sink, G: Gate + Sync>(
+fn serve_campaign_of_app<T: Threads + Wait + Sync, W: Sink, G: Gate + Sync>(
     rt: &T,
     alloc: Global,
     app: &App,
@@ -193,7 +197,7 @@ pub fn serve<T: Threads + Wait + Sync, R: Source, W: Sink>(
         shard,
         options,
     };
-    serve_app(rt, alloc, &app, writer, &request, &NoGate)
+    serve_campaign_of_app(rt, alloc, &app, writer, &request, &NoGate)
 }
 
 /// The same as `serve`, of the file of these bytes. The gate learns what the workers do.
@@ -202,20 +206,13 @@ pub fn serve_of<T: Threads + Wait + Sync, W: Sink, G: Gate + Sync>(
     alloc: Global,
     bytes: &[u8],
     writer: &mut W,
-    view: View,
-    shard: Shard,
-    options: Options,
+    request: &Request,
     gate: &G,
 ) -> Result<Totals, ServeFault>
     requires { W.has_failed writer.old ≡ false }
-    ensures { ServesCampaign view shard (streams_of (Some bytes.now) false
+    ensures { ServesCampaign request.now.view request.now.shard (streams_of (Some bytes.now) false
         (W.held writer.old) (W.held writer.new) (W.has_failed writer.new)) result }
 {
     let app = app_in(alloc, bytes)?;
-    let request = Request {
-        view,
-        shard,
-        options,
-    };
-    serve_app(rt, alloc, &app, writer, &request, gate)
+    serve_campaign_of_app(rt, alloc, &app, writer, request, gate)
 }

@@ -17,7 +17,7 @@ mod worker;
 mod worker_results;
 
 pub use all_rows::{Finished, campaign};
-pub use bytes_to_report::{serve, serve_of};
+pub use bytes_to_report::{Request, serve, serve_of};
 pub use file::{ServeFault, app_in};
 pub use gate::{Gate, NoGate};
 pub use named::point_named;

@@ -14,7 +14,7 @@ use requests::NamedPoint;
 use shelf::Shelf;
 use std::alloc::Global;
 
-/// So many steps are between two stops of a shelf from which one row is made.
+/// So many steps are between two checkpoints of a shelf from which one row is made.
 const FAR: u32 = 65_536;
 
 /// The base run: nothing is injected.
@@ -60,7 +60,7 @@ fn asked_run(
 
 // Runs an application as it is asked for, and writes the report of the run, as the last thing it
 // does.
-fn serve_app<W: Sink>(
+fn serve_run_of_app<W: Sink>(
     alloc: Global,
     app: &App,
     writer: &mut W,
@@ -94,7 +94,7 @@ pub fn serve_run<R: Source, W: Sink>(
         (W.held writer.old) (W.held writer.new) (W.has_failed writer.new)) result }
 {
     let app = app_of(alloc, reader)?;
-    serve_app(alloc, &app, writer, asked)
+    serve_run_of_app(alloc, &app, writer, asked)
 }
 
 /// The same of the file of these bytes.
@@ -109,5 +109,5 @@ pub fn serve_run_of<W: Sink>(
         (W.held writer.old) (W.held writer.new) (W.has_failed writer.new)) result }
 {
     let app = app_in(alloc, bytes)?;
-    serve_app(alloc, &app, writer, asked)
+    serve_run_of_app(alloc, &app, writer, asked)
 }

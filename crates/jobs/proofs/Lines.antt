@@ -23,9 +23,9 @@ words_left h xs i d before after within is =
     ∙ ap (λ l. before ++ l) (cons_option-append (h (get_or xs i d)) (filter_map h (drop (i + 1) xs))))
 
 -- Pieces with these texts were written.
-pub told_by_writes : {T E : Type 0} (old new : Option (List ℕ)) (failed : Bool)
+pub tells_by_writes : {T E : Type 0} (old new : Option (List ℕ)) (failed : Bool)
     (r : Result T E) (written pieces : List Piece) (texts : List (List ℕ))
     → written ≡ pieces → map piece_text pieces ≡ texts → failed ≡ is_err r
     → Writes old new r (joined_line (map piece_text written)) → Tells old new failed (joined_line texts)
-told_by_writes old new failed (Ok x) written pieces texts same is kind writes = rw (kind, ← is, ← same) writes
-told_by_writes old new failed (Err e) written pieces texts same is kind writes = rw (kind, ← is, ← same) writes
+tells_by_writes old new failed (Ok x) written pieces texts same is kind writes = rw (kind, ← is, ← same) writes
+tells_by_writes old new failed (Err e) written pieces texts same is kind writes = rw (kind, ← is, ← same) writes

@@ -126,15 +126,15 @@ fault_pieces name (Serve Write) = codes "rtosim: cannot write" ∷ []
 abbrev pub fault_line : (name : List ℕ) → JobFault → List ℕ
 fault_line name fault = joined_line (fault_pieces name fault)
 
--- the name in the line of a job's fault: that of the handler that is unknown, otherwise that of the file
-abbrev pub name_told : Job → JobFault → List ℕ
-name_told job (Serve (UnknownHandler place)) = handler_of job place
-name_told job fault = file_of job
+-- the name in the message of a job's fault: that of the handler that is unknown, otherwise that of the file
+abbrev pub name_in_message : Job → JobFault → List ℕ
+name_in_message job (Serve (UnknownHandler place)) = handler_of job place
+name_in_message job fault = file_of job
 
 -- what is printed of an outcome
-abbrev pub told : Job → Result Bool JobFault → List ℕ
-told job (Ok passes) = []
-told job (Err fault) = fault_line (name_told job fault) fault
+abbrev pub message_of : Job → Result Bool JobFault → List ℕ
+message_of job (Ok passes) = []
+message_of job (Err fault) = fault_line (name_in_message job fault) fault
 
 -- The whole text went out, or a beginning of it to a sink that failed.
 abbrev pub Tells : (old new : Option (List ℕ)) → (failed : Bool) → (text : List ℕ) → Type 0

@@ -9,7 +9,7 @@ use Rattle.requests.specs.declared.job.Job.{Job}
 use Rattle.jobs.specs.declared.run_job.JobFault.{JobFault}
 use Rattle.jobs.specs.declared.run_job.JobFault.TheVariants.{Serve}
 use Rattle.campaign.specs.declared.file.ServeFault.TheVariants.{Memory, Write}
-use Rattle.jobs.specs.Acting.{OpensAndDoes, Tells, fault_line, status_of, told}
+use Rattle.jobs.specs.Acting.{OpensAndDoes, Tells, fault_line, message_of, status_of}
 use Rattle.requests.specs.Words.{IsJobOf, faults_of, rtosim_app}
 
 -- ---- words that name no job
@@ -77,7 +77,7 @@ pub record DoesJob (words : List (List ℕ)) (old new : Option (List ℕ)) (writ
   pub taken : faults_of words ≡ []
   pub outcome : Result Bool JobFault
   pub does : OpensAndDoes job old new write_failed outcome
-  pub tells : Tells faults_old faults_new tell_failed (told job outcome)
+  pub tells : Tells faults_old faults_new tell_failed (message_of job outcome)
   pub ends : status ≡ status_of outcome
 
 -- The words name no job, and are of this kind; or no memory is left.

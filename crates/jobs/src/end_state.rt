@@ -74,7 +74,7 @@ fn asked_run(
 
 // Runs an application as it is asked for, and writes the report of the run and its end state, as
 // the last thing it does.
-fn serve_app<W: Sink>(
+fn serve_end_state_of_app<W: Sink>(
     alloc: Global,
     app: &App,
     writer: &mut W,
@@ -103,5 +103,5 @@ pub(crate) fn serve_end_state<W: Sink>(
         (W.held writer.old) (W.held writer.new) (W.has_failed writer.new)) result }
 {
     let app = app_in(alloc, bytes)?;
-    serve_app(alloc, &app, writer, asked)
+    serve_end_state_of_app(alloc, &app, writer, asked)
 }

@@ -147,7 +147,7 @@ fn all_pass(found: &[Found]) -> bool
 }
 
 // Explores an application, and writes the report of what is found, as its last deed. Returns whether each placement passes.
-fn serve_app<W: Sink, G: Watch>(
+fn serve_exploration_of_app<W: Sink, G: Watch>(
     alloc: Global,
     app: &App,
     writer: &mut W,
@@ -183,5 +183,5 @@ pub(crate) fn serve_exploration<T, W: Sink, G: Watch>(
         (W.held writer.old) (W.held writer.new) (W.has_failed writer.new)) result }
 {
     let app = app_in(host.alloc, bytes)?;
-    serve_app(host.alloc, &app, writer, most, list, host.gate)
+    serve_exploration_of_app(host.alloc, &app, writer, most, list, host.gate)
 }

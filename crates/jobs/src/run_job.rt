@@ -9,14 +9,14 @@ ghost use Rattle.campaign.specs.Campaigns.{ServesCampaign};
 ghost use Rattle.campaign.specs.Serving.{streams_of};
 ghost use Rattle.jobs.specs.Passing.{IsServed};
 ghost use Rattle.jobs.specs.Acting.{Does, DoesAsRead, DoesOverFile, OpensAndDoes, ReadsFor, FailsToRead, ServesRunAt, Tells};
-ghost use Rattle.jobs.specs.Acting.{all_pass, fault_line, most_bytes, name_told, told, status_of};
+ghost use Rattle.jobs.specs.Acting.{all_pass, fault_line, message_of, most_bytes, name_in_message, status_of};
 
 use crate::end_state::serve_end_state;
 use crate::exploring::serve_exploration;
 use crate::fault_line::tell;
 use crate::host::Host;
 use byte_io::{FromReader, ReadFault, Sink, Source, read_all, read_at_most};
-use campaign::{Gate, ServeFault, serve_of, serve_run_of};
+use campaign::{Gate, Request, ServeFault, serve_of, serve_run_of};
 use explorer::Watch;
 use model::End;
 use report::{Shard, View};
@@ -48,8 +48,8 @@ impl From<ServeFault> for JobFault {
 }
 
 // The name in the line of this fault of a job.
-fn name_told<'a>(job: &Job<'a>, fault: JobFault) -> &'a str
-    ensures { result.now ≡ name_told job.now fault }
+fn name_in_message<'a>(job: &Job<'a>, fault: JobFault) -> &'a str
+    ensures { result.now ≡ name_in_message job.now fault }
 {
     match fault {
         JobFault::Serve(ServeFault::UnknownHandler(place)) => job.handler(place),
@@ -86,7 +86,7 @@ pub fn status_of(outcome: Result<bool, JobFault>) -> u8
 /// Prints a fault of words that name no job. Returns its status.
 pub fn refuse<F: Sink>(faults: &mut F, fault: ServeFault) -> u8
     requires { F.has_failed faults.old ≡ false }
-    ensures told { Tells (F.held faults.old) (F.held faults.new) (F.has_failed faults.new)
+    ensures message { Tells (F.held faults.old) (F.held faults.new) (F.has_failed faults.new)
         (fault_line [] (job_fault.Serve fault)) }
     ensures status { result ≡ status_of (Err (job_fault.Serve fault)) }
 {
@@ -98,12 +98,12 @@ pub fn refuse<F: Sink>(faults: &mut F, fault: ServeFault) -> u8
 /// line can't be put changes nothing of the status.
 pub fn conclude<F: Sink>(job: &Job<'_>, faults: &mut F, outcome: Result<bool, JobFault>) -> u8
     requires { F.has_failed faults.old ≡ false }
-    ensures told { Tells (F.held faults.old) (F.held faults.new) (F.has_failed faults.new)
-        (told job.now outcome) }
+    ensures message { Tells (F.held faults.old) (F.held faults.new) (F.has_failed faults.new)
+        (message_of job.now outcome) }
     ensures status { result ≡ status_of outcome }
 {
     if let Err(fault) = outcome {
-        tell(faults, name_told(job, fault), fault);
+        tell(faults, name_in_message(job, fault), fault);
     }
     status_of(outcome)
 }
@@ -141,9 +141,12 @@ fn serve_campaign<T: Threads + Wait + Sync, W: Sink, G: Gate + Sync>(
     ensures { IsServed all_pass (ServesCampaign view shard (streams_of (Some bytes.now) false
         (W.held writer.old) (W.held writer.new) (W.has_failed writer.new))) result }
 {
-    let totals = serve_of(
-        host.rt, host.alloc, bytes, writer, view, shard, options, host.gate,
-    )?;
+    let request = Request {
+        view,
+        shard,
+        options,
+    };
+    let totals = serve_of(host.rt, host.alloc, bytes, writer, &request, host.gate)?;
     Ok(totals.pass == totals.rows)
 }
 
@@ -197,7 +200,7 @@ fn act_on<T: Threads + Wait + Sync, W: Sink, F: Sink, G: Gate + Watch + Sync>(
     ensures { (outcome : Result Bool JobFault)
         × DoesAsRead job.now read
         (W.held writer.old) (W.held writer.new) (W.has_failed writer.new) outcome
-        × Tells (F.held faults.old) (F.held faults.new) (F.has_failed faults.new) (told job.now outcome)
+        × Tells (F.held faults.old) (F.held faults.new) (F.has_failed faults.new) (message_of job.now outcome)
         × (result ≡ status_of outcome) }
 {
     match read {
@@ -250,7 +253,7 @@ pub fn act<T: Threads + Wait + Sync, R: Source, W: Sink, F: Sink, G: Gate + Watc
     ensures does { (outcome : Result Bool JobFault)
         × Does job.now (streams_of (R.left reader.old) (R.has_failed reader.new)
         (W.held writer.old) (W.held writer.new) (W.has_failed writer.new)) outcome
-        × Tells (F.held faults.old) (F.held faults.new) (F.has_failed faults.new) (told job.now outcome)
+        × Tells (F.held faults.old) (F.held faults.new) (F.has_failed faults.new) (message_of job.now outcome)
         × (result ≡ status_of outcome) }
     ensures unread { is_unpaired job.now ≡ true → R.left reader.new ≡ R.left reader.old }
 {
@@ -295,7 +298,7 @@ fn act_over_file<T: Threads + Wait + Sync, R: Source, W: Sink, F: Sink, G: Gate 
     ensures does { (outcome : Result Bool JobFault)
         × DoesOverFile job.now (streams_of (R.left reader.old) (R.has_failed reader.new)
         (W.held writer.old) (W.held writer.new) (W.has_failed writer.new)) outcome
-        × Tells (F.held faults.old) (F.held faults.new) (F.has_failed faults.new) (told job.now outcome)
+        × Tells (F.held faults.old) (F.held faults.new) (F.has_failed faults.new) (message_of job.now outcome)
         × (result ≡ status_of outcome) }
     ensures unread { is_unpaired job.now ≡ true → R.left reader.new ≡ R.left reader.old }
 {
@@ -330,7 +333,7 @@ pub fn open_and_act<T: Threads + Wait + Files + Sync, W: Sink, F: Sink, G: Gate 
     requires tells { F.has_failed faults.old ≡ false }
     ensures { (outcome : Result Bool JobFault)
         × OpensAndDoes job.now (W.held writer.old) (W.held writer.new) (W.has_failed writer.new) outcome
-        × Tells (F.held faults.old) (F.held faults.new) (F.has_failed faults.new) (told job.now outcome)
+        × Tells (F.held faults.old) (F.held faults.new) (F.has_failed faults.new) (message_of job.now outcome)
         × (result ≡ status_of outcome) }
 {
     match File::open(host.rt, job.file()) {

@@ -10,9 +10,9 @@ returns-in_err-app g c =
     let fault = c.in_err-app.field-0.0 in
     let outcome : c.from_residual.result ≡ Err fault = search rules in
     rw outcome
-    (campaign_serves_file_fault c.args.view c.args.shard (Some bytes) _ _ _ fault
+    (campaign_serves_file_fault c.args.request.now.view c.args.request.now.shard (Some bytes) _ _ _ fault
     (bytes, refl, c.in_err-app.ensures.app) (sym c.in_err-app.ensures.read ∙ same_read Application Totals fault)
     (same_write Application Totals fault ∙ c.in_err-app.ensures.write) c.requires)
 
 pub returns : goal.returns
-returns g c = c.serve_app.ensures (Some c.args.bytes.now) c.args.bytes.now refl c.in_ok-app.ensures.app
+returns g c = c.serve_campaign_of_app.ensures (Some c.args.bytes.now) c.args.bytes.now refl c.in_ok-app.ensures.app

@@ -20,6 +20,6 @@ returns g c =
     let file = c.in_ok-app.ensures.app in
     let input = g.R.Source.left c.args.reader.now in
     subst (λ (failed : Bool).
-    ServesRun c.args.asked (streams_of input failed (g.W.Sink.held c.args.writer.now) (g.W.Sink.held c.serve_app.new.writer)
-    (g.W.Sink.has_failed c.serve_app.new.writer)) c.serve_app.result)
-    (sym c.in_ok-app.ensures.read) (c.serve_app.ensures input file.0 file.1 file.2)
+    ServesRun c.args.asked (streams_of input failed (g.W.Sink.held c.args.writer.now) (g.W.Sink.held c.serve_run_of_app.new.writer)
+    (g.W.Sink.has_failed c.serve_run_of_app.new.writer)) c.serve_run_of_app.result)
+    (sym c.in_ok-app.ensures.read) (c.serve_run_of_app.ensures input file.0 file.1 file.2)

@@ -15,4 +15,4 @@ returns-in_err-app g c =
     (same_write Application End fault ∙ c.in_err-app.ensures.write) c.requires)
 
 pub returns : goal.returns
-returns g c = c.serve_app.ensures (Some c.args.bytes.now) c.args.bytes.now refl c.in_ok-app.ensures.app
+returns g c = c.serve_run_of_app.ensures (Some c.args.bytes.now) c.args.bytes.now refl c.in_ok-app.ensures.app

@@ -9,11 +9,11 @@ pub returns-in_err-app : goal.returns-in_err-app
 returns-in_err-app g c =
     let bytes = c.args.bytes.now in
     let fault = c.in_err-app.field-0.0 in
-    let told : c.from_residual.result ≡ Err fault = search rules in
-    rw told
+    let outcome : c.from_residual.result ≡ Err fault = search rules in
+    rw outcome
     (end_state_file_fault c.args.asked (Some bytes) _ _ _ fault (bytes, refl, c.in_err-app.ensures.app)
     (sym c.in_err-app.ensures.read ∙ same_read Application End fault)
     (same_write Application End fault ∙ c.in_err-app.ensures.write) c.requires)
 
 pub returns : goal.returns
-returns g c = c.serve_app.ensures c.args.bytes.now c.in_ok-app.ensures.app
+returns g c = c.serve_end_state_of_app.ensures c.args.bytes.now c.in_ok-app.ensures.app

@@ -11,8 +11,8 @@ returns-in_err-add_handler c =
     let app = c.args.app.now in
     let known = c.loop-name.invariant.known
     ∙ ap (λ (names : List (List ℕ)). map Some c.loop-name.handlers.items ++ map (source_named app) names) parts in
-    let told : c.from_residual.result ≡ Err c.in_err-add_handler.field-0.0 = search rules in
-    rw told
+    let outcome : c.from_residual.result ≡ Err c.in_err-add_handler.field-0.0 = search rules in
+    rw outcome
     (naming_fault c.args.list.now app c.loop-name.handlers.items c.in-Some.name.now (names_of c.in-Some.others.now) _ known
     c.in_err-add_handler.ensures.fault)
 
@@ -33,8 +33,8 @@ returns-in_err-add_handler-2 c =
     let app = c.args.app.now in
     let known = c.loop-name.invariant.known
     ∙ ap (λ (names : List (List ℕ)). map Some c.loop-name.handlers.items ++ map (source_named app) names) parts in
-    let told : c.from_residual-in_err-add_handler-2.result ≡ Err c.in_err-add_handler-2.field-0.0 = search rules in
-    rw told
+    let outcome : c.from_residual-in_err-add_handler-2.result ≡ Err c.in_err-add_handler-2.field-0.0 = search rules in
+    rw outcome
     (naming_fault c.args.list.now app c.loop-name.handlers.items c.loop-name.rest.now [] _ known
     c.in_err-add_handler-2.ensures.fault)
 

@@ -6,7 +6,7 @@ returns-in-Ok g c =
     let same : c.as_slice.result.now ≡ c.in-Ok.bytes.items = search rules in (
       c.serve_job-outcome.result,
       rw (c.in-Ok.is, ← same) c.serve_job-outcome.ensures,
-      c.conclude.ensures.told,
+      c.conclude.ensures.message,
       c.conclude.ensures.status,
     )
 
@@ -14,6 +14,6 @@ pub returns-in-Err : goal.returns-in-Err
 returns-in-Err g c = (
   Err c.in-Err.fault,
   rw c.in-Err.is (refl, refl, c.requires.writes),
-  c.conclude-in-Err.ensures.told,
+  c.conclude-in-Err.ensures.message,
   c.conclude-in-Err.ensures.status,
 )

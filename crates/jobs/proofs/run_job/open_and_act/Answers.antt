@@ -12,6 +12,6 @@ pub returns-in-Err : goal.returns-in-Err
 returns-in-Err g c = (
   Err (Serve c.fault_of.result),
   inl (lacks_file _ _ c.fault_of.result c.fault_of.ensures.either c.requires.writes),
-  c.conclude.ensures.told,
+  c.conclude.ensures.message,
   c.conclude.ensures.status,
 )

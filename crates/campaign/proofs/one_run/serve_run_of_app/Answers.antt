@@ -4,7 +4,7 @@ use Rattle.report.specs.Text.{run_text}
 use Rattle.campaign.specs.declared.file.ServeFault.TheVariants.{Write}
 use Rattle.campaign.specs.OneRun.{IsReportOf}
 use Rattle.campaign.proofs.Faulty.{serves_front, serves_run_fault}
-use Rattle.campaign.proofs.one_run.serve_app.Goals as goal
+use Rattle.campaign.proofs.one_run.serve_run_of_app.Goals as goal
 
 pub returns-in_err-title : goal.returns-in_err-title
 returns-in_err-title g c input bytes known file =

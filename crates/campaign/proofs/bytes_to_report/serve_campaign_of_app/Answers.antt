@@ -8,7 +8,7 @@ use Rattle.campaign.specs.Campaigns.{IsCampaignOf, first_number}
 use Rattle.rows.specs.Report.{Shown}
 use Rattle.campaign.proofs.Faulty.{campaign_serves_rows_fault, serves_front}
 use Rattle.campaign.proofs.Seeing.{seen_text, seen_totals}
-use Rattle.campaign.proofs.bytes_to_report.serve_app.Goals as goal
+use Rattle.campaign.proofs.bytes_to_report.serve_campaign_of_app.Goals as goal
 
 pub returns-in_err-report : goal.returns-in_err-report
 returns-in_err-report g c input bytes known file =

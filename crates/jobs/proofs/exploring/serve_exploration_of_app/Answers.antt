@@ -7,12 +7,12 @@ use Rattle.explorer.specs.Totals.{placements_in}
 use Rattle.campaign.specs.declared.file.ServeFault.TheVariants.{Write}
 use Rattle.campaign.proofs.Faulty.{serves_front}
 use Rattle.jobs.proofs.Explorations.{exploration_fault, report_of}
-use Rattle.jobs.proofs.exploring.serve_app.Goals as goal
+use Rattle.jobs.proofs.exploring.serve_exploration_of_app.Goals as goal
 
 pub returns-in_err-found : goal.returns-in_err-found
 returns-in_err-found g c bytes file =
-    let told : c.from_residual.result ≡ Err c.in_err-found.field-0.0 = search rules in
-    rw told
+    let outcome : c.from_residual.result ≡ Err c.in_err-found.field-0.0 = search rules in
+    rw outcome
     (exploration_fault c.args.most (option_map (λ list. list.now) c.args.list) (Some bytes) false
     (g.W.Sink.has_failed c.args.writer.now) (g.W.Sink.held c.args.writer.now)
     c.in_err-found.field-0.0 c.args.app.now (bytes, refl, file) c.in_err-found.ensures.found refl c.requires)
@@ -23,8 +23,8 @@ returns-in_err-write_found g c bytes file =
     let is = report_of c.args.most (option_map (λ list. list.now) c.args.list) bytes c.args.app.now found file
     c.in_ok-found.ensures.found in
     let same : c.as_slice.result.now ≡ found = search rules in
-    let told : c.from_residual-in_err-write_found.result ≡ Err Write = search rules in
-    rw told
+    let outcome : c.from_residual-in_err-write_found.result ≡ Err Write = search rules in
+    rw outcome
     (serves_front _ _ _ _ _ _ _ bytes _ _ refl is (rw same at c.in_err-write_found.ensures.text)
     refl c.in_err-write_found.ensures.failed)
 

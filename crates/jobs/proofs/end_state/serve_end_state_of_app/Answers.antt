@@ -6,12 +6,12 @@ use Rattle.campaign.specs.declared.file.ServeFault.TheVariants.{Write}
 use Rattle.campaign.proofs.Faulty.{serves_front}
 use Rattle.jobs.specs.EndStates.{IsEndStateReportOf}
 use Rattle.jobs.proofs.EndStates.{end_state_run_fault}
-use Rattle.jobs.proofs.end_state.serve_app.Goals as goal
+use Rattle.jobs.proofs.end_state.serve_end_state_of_app.Goals as goal
 
 pub returns-in_err-title : goal.returns-in_err-title
 returns-in_err-title g c bytes file =
-    let told : c.from_residual.result ≡ Err c.in_err-title.field-0.0 = search rules in
-    rw told
+    let outcome : c.from_residual.result ≡ Err c.in_err-title.field-0.0 = search rules in
+    rw outcome
     (end_state_run_fault c.args.asked (Some bytes) false (g.W.Sink.has_failed c.args.writer.now) (g.W.Sink.held c.args.writer.now)
     c.in_err-title.field-0.0 c.args.app.now (bytes, refl, file) c.in_err-title.ensures refl c.requires)
 
@@ -30,8 +30,8 @@ returns-in_err-write_run_and_end_state g c bytes file =
       ends = refl;
       text = ap (λ s. run_text app title run ++ end_state_text app s) c.in_ok-title.ensures.1;
     } in
-    let told : c.from_residual-in_err-write_run_and_end_state.result ≡ Err Write = search rules in
-    rw told
+    let outcome : c.from_residual-in_err-write_run_and_end_state.result ≡ Err Write = search rules in
+    rw outcome
     (serves_front _ _ _ _ _ _ _ bytes _ _ refl is c.in_err-write_run_and_end_state.ensures.text
     refl c.in_err-write_run_and_end_state.ensures.failed)
 
