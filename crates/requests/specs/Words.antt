@@ -191,9 +191,9 @@ IsRunOf rows (Explore file injections handlers) = ⊥
 
 -- the job of words of `run` that ask for this
 abbrev pub IsRunWith : (file : Text) → (state : Bool) → Asking → Option Job → Type 0
-IsRunWith file state Base (Some (Run name None told)) = (name.now ≡ file) × (told ≡ state)
-IsRunWith file state (Injects pairs) (Some (Run name (Some point) told)) =
-    (name.now ≡ file) × (told ≡ state) × (pairs_in point.injections ≡ pairs)
+IsRunWith file state Base (Some (Run name None with_state)) = (name.now ≡ file) × (with_state ≡ state)
+IsRunWith file state (Injects pairs) (Some (Run name (Some point) with_state)) =
+    (name.now ≡ file) × (with_state ≡ state) × (pairs_in point.injections ≡ pairs)
 IsRunWith file state Half (Some (RunUnpaired name)) = name.now ≡ file
 IsRunWith file state Nothing None = Unit {0}
 IsRunWith file state a job = ⊥

@@ -23,10 +23,10 @@ module _ (place : Place) (key : Key) (check : Place → Data → Option Fault)
     (ms : Members) (here : Place) (is : here ≡ at_key place key) where
   pub missing : (fault : Fault) → None ≡ get_member (key_word key) ms → fault ≡ fault_at Missing here
       → required place key check ms ≡ Some fault
-  missing fault none told =
+  missing fault none same =
       ap (λ o. need (fault_at Missing (at_key place key)) o (check (at_key place key))) (sym none)
       ∙ ap (λ p. Some (fault_at Missing p)) (sym is)
-      ∙ ap (λ f. Some f) (sym told)
+      ∙ ap (λ f. Some f) (sym same)
 
   pub there : (d : Data) (found : Option Fault) → Some d ≡ get_member (key_word key) ms → check here d ≡ found
       → required place key check ms ≡ found

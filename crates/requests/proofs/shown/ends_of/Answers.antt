@@ -10,8 +10,8 @@ pub returns-in_err-ends_named : goal.returns-in_err-ends_named
 returns-in_err-ends_named c =
     let parts = cut_parts 44 c.loop-word.rest.now (Some (c.in-Some.word, c.in-Some.others)) c.in-Some.ensures.cases (omega arith) in
     let is : ends_named c.in-Some.word.now ≡ None = search rules in
-    let told : c.from_residual.result ≡ None = search rules in
-    told ∙ sym (with_none c.loop-word.ends c.in-Some.word.now (slice_split (λ b. b == 44) c.in-Some.others.now) is)
+    let outcome : c.from_residual.result ≡ None = search rules in
+    outcome ∙ sym (with_none c.loop-word.ends c.in-Some.word.now (slice_split (λ b. b == 44) c.in-Some.others.now) is)
     ∙ ap (λ (ps : List (List ℕ)). option_map (either c.loop-word.ends) (ends_listed ps)) (sym parts) ∙ c.loop-word.invariant.so_far
 
 pub loop-word-preserved : goal.loop-word-preserved
@@ -32,8 +32,8 @@ pub returns-in_err-ends_named-2 : goal.returns-in_err-ends_named-2
 returns-in_err-ends_named-2 c =
     let parts = cut_parts 44 c.loop-word.rest.now None c.in_default.ensures.cases (omega arith) in
     let is : ends_named c.loop-word.rest.now ≡ None = search rules in
-    let told : c.from_residual-in_err-ends_named-2.result ≡ None = search rules in
-    told ∙ sym (with_none c.loop-word.ends c.loop-word.rest.now [] is)
+    let outcome : c.from_residual-in_err-ends_named-2.result ≡ None = search rules in
+    outcome ∙ sym (with_none c.loop-word.ends c.loop-word.rest.now [] is)
     ∙ ap (λ (ps : List (List ℕ)). option_map (either c.loop-word.ends) (ends_listed ps)) (sym parts) ∙ c.loop-word.invariant.so_far
 
 pub returns : goal.returns

@@ -5,20 +5,20 @@ use Rattle.requests.proofs.shown.shard_named.Goals as goal
 
 pub returns-in_err-number : goal.returns-in_err-number
 returns-in_err-number c =
-    let told : c.from_residual.result ≡ None = search rules in
-    told ∙ sym (without_stroke c.args.text.now c.in_err-number.ensures.cases)
+    let outcome : c.from_residual.result ≡ None = search rules in
+    outcome ∙ sym (without_stroke c.args.text.now c.in_err-number.ensures.cases)
 
 pub returns-in_err-spelled : goal.returns-in_err-spelled
 returns-in_err-spelled c =
-    let told : c.from_residual-in_err-spelled.result ≡ None = search rules in
-    told
+    let outcome : c.from_residual-in_err-spelled.result ≡ None = search rules in
+    outcome
     ∙ sym (at_stroke c.args.text.now (c.in_ok-number.number, c.in_ok-number.count) c.in_ok-number.ensures.cases
     ∙ no_number _ _ (c.in_err-spelled.ensures.none refl))
 
 pub returns-in_err-spelled-2 : goal.returns-in_err-spelled-2
 returns-in_err-spelled-2 c =
-    let told : c.from_residual-in_err-spelled-2.result ≡ None = search rules in
-    told
+    let outcome : c.from_residual-in_err-spelled-2.result ≡ None = search rules in
+    outcome
     ∙ sym (at_stroke c.args.text.now (c.in_ok-number.number, c.in_ok-number.count) c.in_ok-number.ensures.cases
     ∙ no_count _ _ (c.in_err-spelled-2.ensures.none refl))
 
