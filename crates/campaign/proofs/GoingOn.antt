@@ -51,12 +51,14 @@ at_place P (x ∷ xs) zero d all below = all.0
 at_place P (x ∷ xs) (suc place) d all below = at_place P xs place d all.1 (omega arith)
 
 -- A row that reaches a kernel which a visited state is found to be goes on as that state says.
-pub rest_found : (visited : List VisitedState) (place : ℕ) (v : VisitedState) (k : Machine) → place < length visited → v ≡ get_or visited place v
-    → k.steps ≡ v.kernel.value.steps → ((s : State) → Stands k s → Stands v.kernel.value s) → IsRestAt visited k v.rest
+pub rest_found : (visited : List VisitedState) (place : ℕ) (v : VisitedState) (k : Machine)
+    → place < length visited → v ≡ get_or visited place v → k.steps ≡ v.kernel.value.steps
+    → ((s : State) → Stands k s → Stands v.kernel.value s) → IsRestAt visited k v.rest
 rest_found visited place v k below found steps alike app limits view base store are_visited =
     let there : IsRestIn app limits view base store v.kernel.value v.rest =
     subst (λ (x : VisitedState). IsRestIn app limits view base store x.kernel.value x.rest) (sym found)
-    (at_place (λ (x : VisitedState). IsRestIn app limits view base store x.kernel.value x.rest) visited place v are_visited below) in
+    (at_place (λ (x : VisitedState). IsRestIn app limits view base store x.kernel.value x.rest)
+    visited place v are_visited below) in
     record {
       events = there.events;
       linked = there.linked;
@@ -103,7 +105,8 @@ module _ (app : Application) (limits : Limits) (view : View) (base : Run) where
   )
 
   -- what is known stays known, and so is what was gained
-  pub knows_more : (points : List (List Injection)) (a b : List KeptRow) (t u : Store) (x y : Tallied) (visited visited' : List VisitedState)
+  pub knows_more : (points : List (List Injection)) (a b : List KeptRow) (t u : Store) (x y : Tallied)
+      (visited visited' : List VisitedState)
       → Knows app limits view base a t visited
       → GainsRows app limits view base points a b t u x y
       → AreVisited app limits view base u visited' → Knows app limits view base b u visited'
@@ -122,7 +125,8 @@ module _ (app : Application) (limits : Limits) (view : View) (base : Run) where
   rest_over store k link steps ticks end to is = record {
     events = [];
     linked = λ shown.
-        subst (λ (l : Link). LinksTo base.events store l []) (sym to) (links_to_nothing base.events store (length base.events) refl);
+        subst (λ (l : Link). LinksTo base.events store l []) (sym to)
+        (links_to_nothing base.events store (length base.events) refl);
     is_rest = is;
   }
 
@@ -163,7 +167,8 @@ module _ (app : Application) (limits : Limits) (view : View) (base : Run) where
       trail = sym (append-nil store.trail);
       events = [];
       linked = λ shown.
-          subst (λ (l : Link). LinksTo base.events store l []) (sym to) (links_to_nothing base.events store (length base.events) refl);
+          subst (λ (l : Link). LinksTo base.events store l []) (sym to)
+          (links_to_nothing base.events store (length base.events) refl);
       is_row = rw same (record {
         goes_on = way.goes_on;
         ends = ends;
@@ -243,7 +248,8 @@ module _ (number : ℕ) (rest : Ahead) (passed : List Passed) (visited : List Vi
   right_here = record { are_put = λ app limits view base store are all. are; still = λ app limits view base store all. all }
 
   -- the last one that was passed becomes a visited state
-  pub right_then : (left : List Passed) (before : List VisitedState) (p : Passed) (step : ℕ) (fewer : List Passed) (more : List VisitedState)
+  pub right_then : (left : List Passed) (before : List VisitedState) (p : Passed) (step : ℕ)
+      (fewer : List Passed) (more : List VisitedState)
       → LeavesRight number rest passed visited left before → left ≡ fewer ++ p ∷ []
       → IsPutAt before more (record { kernel = p.kernel; hint = p.hint; step = step; rest = rest_from number rest p })
       → LeavesRight number rest passed visited fewer more

@@ -247,7 +247,8 @@ module _ (app : Application) (limits : Limits) (view : View) (base : Run)
           let shown = shows_events view base.end in
           let taken = taken_by shown base.events shared count in
           let nothing : LinksTo base.events store link [] =
-          subst (λ (l : Link). LinksTo base.events store l []) (sym to) (links_to_nothing base.events store (length base.events) refl) in
+          subst (λ (l : Link). LinksTo base.events store l []) (sym to)
+          (links_to_nothing base.events store (length base.events) refl) in
           let its : take shared base.events ++ linked_events base.events store link ≡ own_of_all shown base.events =
           ap₂ (λ (xs ys : List Event). xs ++ ys) taken.1 nothing.are ∙ append-nil (own_of_all shown base.events) in
           let whole : Row = record { point = point; reached = false; run = base } in

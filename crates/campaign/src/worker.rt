@@ -1,5 +1,6 @@
 //! A worker, which makes the rows of the blocks that its lane returns.
-ghost use Rattle.std.specs.Prelude.{◌≡◌, ◌<◌, ◌≤◌, ◌+◌, ◌^◌, ◌++◌, ◌∷◌, ℕ, [], None, length, slice_index, sum, take, drop, IfOk, IfSome, OnOk};
+ghost use Rattle.std.specs.Prelude.{◌≡◌, ◌<◌, ◌≤◌, ◌+◌, ◌^◌, ◌++◌, ◌∷◌, ℕ, [], None, length, slice_index, sum, take, drop};
+ghost use Rattle.std.specs.Prelude.{IfOk, IfSome, OnOk};
 ghost use Rattle.model.specs.Application.{Limits};
 ghost use Rattle.shelf.specs.Walks.{IsWalk};
 ghost use Rattle.campaign.specs.Running.{HasVisited, KnowsRows, MakesRow, MakesRows};

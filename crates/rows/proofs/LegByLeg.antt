@@ -43,10 +43,11 @@ module _ (app : Application) (base : List Event) (store : Store) (legs : AreLegs
       ∙ ap (λ (t : List ℕ). page ++ t)
       (sym (ap text (linked_on base store legs number from leg at) ∙ flat_map-append (event_text app) here behind))
 
-  -- the events of a leg are added, and those behind it are left
+  -- the events of a leg are added, and those after it are left
   pub leg_sent : (mid : List ℕ) → Sent b c (page ++ text here) mid → Sent a c whole (mid ++ text behind)
-  leg_sent mid second = Sent_then a b c whole (page ++ text (linked_events base store (links.Leg number from))) (mid ++ text behind) sent
-      (subst (λ (t : List ℕ). Sent b c t (mid ++ text behind)) both (Sent_longer b c (page ++ text here) mid (text behind) second))
+  leg_sent mid second = Sent_then a b c whole (page ++ text (linked_events base store (links.Leg number from))) (mid ++ text behind)
+      sent (subst (λ (t : List ℕ). Sent b c t (mid ++ text behind)) both
+      (Sent_longer b c (page ++ text here) mid (text behind) second))
 
   pub leg_stopped : SentFront b c (page ++ text here) → SentFront a c whole
   leg_stopped second = SentFront_then a b c whole (page ++ text (linked_events base store (links.Leg number from))) sent

@@ -91,7 +91,8 @@ module _ (base : List Event) where
         rw g.trail (same_range store.trail g.own from leg.to on.rises on.within) in
         rw (at, there, rest, here) refl
 
-    pub same_linked_events : (new : Store) → Grows store new → (l : Link) → IsLink base store l → linked_events base new l ≡ linked_events base store l
+    pub same_linked_events : (new : Store) → Grows store new → (l : Link) → IsLink base store l
+        → linked_events base new l ≡ linked_events base store l
     same_linked_events new g l is = same_linked_by new g (height l) (height l) l (omega arith) (omega arith) is
 
     still_on : (trail own : List Event) (from : ℕ) (leg : Leg) → IsOn trail from leg → IsOn (trail ++ own) from leg
@@ -107,11 +108,13 @@ module _ (base : List Event) where
     -- the events that followed a link still do
     pub still_links_to : (new : Store) → Grows store new → (l : Link) (events : List Event)
         → LinksTo base store l events → LinksTo base new l events
-    still_links_to new g l events is = record { there = still_link new g l is.there; are = same_linked_events new g l is.there ∙ is.are }
+    still_links_to new g l events is =
+        record { there = still_link new g l is.there; are = same_linked_events new g l is.there ∙ is.are }
 
     -- the events that follow a link: those of its leg, and then those after the leg
     pub linked_on : (number from : ℕ) (leg : Leg) → slice_get store.legs number ≡ Some leg
-        → linked_events base store (links.Leg number from) ≡ slice_range store.trail from leg.to ++ linked_events base store leg.next
+        → linked_events base store (links.Leg number from)
+        ≡ slice_range store.trail from leg.to ++ linked_events base store leg.next
     linked_on number from leg at =
         let its = legs number leg at in
         let before = its.before in
@@ -136,8 +139,8 @@ module _ (base : List Event) where
         record { before = rw (here.0, sym same) before; next = rw (sym same) (still_link new g leg.next next) }) in
         ⊎_elim old last (get_more store.legs leg number other (rw is at at))
 
--- A row is closed by a leg up to the end of the trail. What follows a link to the leg, from a place of the trail on, is the trail from
--- there on, and then what the leg goes on with.
+-- A row is closed by a leg up to the end of the trail. A link to the leg from a place of the trail is followed by the trail from
+-- there on, and then by what the leg goes on with.
 module _ (base : List Event) (store new : Store) (legs : AreLegs base store) (leg : Leg)
     (trail : new.trail ≡ store.trail) (pushed : new.legs ≡ store.legs ++ leg ∷ []) where
   pub closed_grows : Grows store new
@@ -152,7 +155,8 @@ module _ (base : List Event) (store new : Store) (legs : AreLegs base store) (le
   closed_links_to to events linked from low =
       let at : slice_get new.legs (length store.legs) ≡ Some leg = rw pushed (get_last store.legs leg) in
       let two = linked_on base new (closed_legs linked.there) (length store.legs) from leg at in
-      let rest : linked_events base new leg.next ≡ events = same_linked_events base store legs new closed_grows leg.next linked.there ∙ linked.are in
+      let rest : linked_events base new leg.next ≡ events =
+      same_linked_events base store legs new closed_grows leg.next linked.there ∙ linked.are in
       let long : length (drop from store.trail) ≤ leg.to - from = omega (arith, length-drop from store.trail) in
       let first : slice_range new.trail from leg.to ≡ drop from store.trail =
       rw trail (take_all (leg.to - from) (drop from store.trail) long) in

@@ -7,7 +7,8 @@ use model::Memory;
 use std::alloc::Global;
 use std::marker::Model;
 
-/// Rows in order. One that comes again is kept once, so of a million points that are few different ones each takes a place, and no row.
+/// Rows in order. One that comes again is kept once, so of a million points that are few different ones each takes a place, and
+/// no row.
 #[derive(Drop)]
 pub struct KeptRows {
     different: Vec<KeptRow>,

@@ -36,8 +36,8 @@ pub struct Place {
 
 /// What one worker made.
 ///
-/// Until its first injection a row reports what the base run reports, so those events are kept once for all rows. The events of a row
-/// from that injection on are in the trail, up to where it goes on as a row before it does.
+/// Until its first injection a row reports what the base run reports, so those events are kept once for all rows. The events of a
+/// row from that injection on are in the trail, up to where it goes on as a row before it does.
 #[derive(Drop)]
 pub struct Part {
     pub kept: KeptRows,

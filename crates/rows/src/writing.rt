@@ -362,7 +362,8 @@ fn write_rows_by<R: Threads + Wait + Sync, W: Sink>(
     requires pieces { ArePieces rendering.now.rows.now 0 (length (whole rendering.now.rows.now)) rendering.now.pieces.items }
     requires working { W.has_failed writer.old ≡ false }
     ensures text { Writes (W.held writer.old) (W.held writer.new) result
-        (report_text rendering.now.app.now rendering.now.rows.now.view rendering.now.rows.now.first (whole rendering.now.rows.now)) }
+        (report_text rendering.now.app.now rendering.now.rows.now.view rendering.now.rows.now.first
+        (whole rendering.now.rows.now)) }
     ensures failed { W.has_failed writer.new ≡ is_err result }
 {
     let mut text = ReportWriter::new(rendering.app);
@@ -427,8 +428,8 @@ fn lanes_and_pieces(alloc: Global, rows: &Rows, threads: usize) -> Option<(Lanes
     Some((lanes, pieces))
 }
 
-/// Writes the report of a campaign: its rows as its view shows them, and the line of their totals. The report is of this application. It
-/// takes no memory, and the calling thread renders all of it.
+/// Writes the report of a campaign: its rows as its view shows them, and the line of their totals. The report is of this
+/// application. It takes no memory, and the calling thread renders all of it.
 ///
 /// `Err` is returned only if the writer failed or took none of some bytes; it has then taken a beginning of the text.
 pub fn write_report<W: Sink>(app: &App, report: &Report, writer: &mut W) -> Result<(), WriteFault>

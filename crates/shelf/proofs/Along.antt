@@ -19,13 +19,15 @@ use Rattle.shelf.specs.Shelves.{IsCheckpoint, AreCheckpoints, Shelved, IsShelf, 
 
 pub one_more : (app : Application) (limits : Limits) (stride : ℕ) (checkpoints more : List Checkpoint) (checkpoint : Checkpoint)
     → AreCheckpoints app limits stride checkpoints
-    → more ≡ checkpoints ++ checkpoint ∷ [] → IsCheckpoint app limits (length checkpoints * stride) checkpoint → AreCheckpoints app limits stride more
+    → more ≡ checkpoints ++ checkpoint ∷ [] → IsCheckpoint app limits (length checkpoints * stride) checkpoint
+    → AreCheckpoints app limits stride more
 one_more app limits stride checkpoints more checkpoint h is last =
-    subst (AreCheckpoints app limits stride) (sym is) (each_more (λ n. IsCheckpoint app limits (n * stride)) checkpoints checkpoint h last)
+    subst (AreCheckpoints app limits stride) (sym is)
+    (each_more (λ n. IsCheckpoint app limits (n * stride)) checkpoints checkpoint h last)
 
 -- how many checkpoints there are
-pub put_more : (checkpoints more : List Checkpoint) (checkpoint : Checkpoint) (stride next : ℕ) → more ≡ checkpoints ++ checkpoint ∷ []
-    → next ≡ length checkpoints * stride → next + stride ≡ length more * stride
+pub put_more : (checkpoints more : List Checkpoint) (checkpoint : Checkpoint) (stride next : ℕ)
+    → more ≡ checkpoints ++ checkpoint ∷ [] → next ≡ length checkpoints * stride → next + stride ≡ length more * stride
 put_more checkpoints more checkpoint stride next is e =
     let one : length more ≡ suc (length checkpoints) = omega (arith, ap length is, length-append checkpoints (checkpoint ∷ [])) in
     rw one (ap (λ (n : ℕ). n + stride) e ∙ sym (suc-mul (length checkpoints) stride))
@@ -106,7 +108,8 @@ module _ (app : Application) (inside now : Shelved) (same : inside ≡ now) (kep
   l : first_step point < inside.base.steps
   l = subst (λ (s : Shelved). first_step point < s.base.steps) (sym same) reached
 
-  pub read_is : (step : ℕ) → step ≡ first_step point → (checkpoint d : Checkpoint) → checkpoint ≡ get_or inside.checkpoints (step / inside.stride) d
+  pub read_is : (step : ℕ) → step ≡ first_step point → (checkpoint d : Checkpoint)
+      → checkpoint ≡ get_or inside.checkpoints (step / inside.stride) d
       → IsCheckpoint app inside.limits (first_step point / inside.stride * inside.stride) checkpoint
   read_is step first checkpoint d read =
       let there : checkpoint ≡ get_or inside.checkpoints (first_step point / inside.stride) d =

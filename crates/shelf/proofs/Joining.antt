@@ -16,8 +16,9 @@ use Rattle.kernel.proofs.Leading.{leads_here, leads_then, rest_before}
 use Rattle.shelf.specs.declared.checkpoints.Checkpoint.{Checkpoint}
 use Rattle.shelf.specs.Rests.{JoinsBase, AreRests}
 
--- The checkpoint leads to the kernel, and the trail has the events on the way behind those that the run had reported at the checkpoint.
-pub record IsBehind (app : Application) (limits : Limits) (now : Machine) (trail : List Event) (checkpoint : Checkpoint) : Type 0 where
+-- The checkpoint leads to the kernel. The trail has the events on the way, after those that the run had reported at the checkpoint.
+pub record IsBehind (app : Application) (limits : Limits) (now : Machine)
+    (trail : List Event) (checkpoint : Checkpoint) : Type 0 where
   pub within : checkpoint.before ≤ length trail
   pub leads : LeadsTo app limits checkpoint.kernel now (drop checkpoint.before trail)
 
@@ -59,8 +60,9 @@ module _ (app : Application) (limits : Limits) where
       (one_on trail after old new led) (slice_get checkpoints number) (are number)
 
   -- One more, where the kernel stands.
-  pub put_behind : (now : Machine) (trail : List Event) (checkpoints more : List Checkpoint) (s : Checkpoint) → more ≡ checkpoints ++ s ∷ []
-      → s.kernel ≡ now → s.before ≡ length trail → AreBehind app limits now trail checkpoints → AreBehind app limits now trail more
+  pub put_behind : (now : Machine) (trail : List Event) (checkpoints more : List Checkpoint) (s : Checkpoint)
+      → more ≡ checkpoints ++ s ∷ [] → s.kernel ≡ now → s.before ≡ length trail
+      → AreBehind app limits now trail checkpoints → AreBehind app limits now trail more
   put_behind now trail checkpoints more s pushed same at are =
       let none : drop s.before trail ≡ [] = ap (λ n. drop n trail) at ∙ drop-length trail in
       let here : IsBehind app limits now trail s =
@@ -100,7 +102,8 @@ module _ (app : Application) (limits : Limits) where
               (append-nil (drop s.before trail) ∙ ap (drop s.before) (sym same)) rest;
         }
 
-    pub all_join : (checkpoints : List Checkpoint) → AreBehind app limits now trail checkpoints → AreRests app limits (base events) checkpoints
+    pub all_join : (checkpoints : List Checkpoint) → AreBehind app limits now trail checkpoints
+        → AreRests app limits (base events) checkpoints
     all_join checkpoints are number =
         each (IsBehind app limits now trail) (λ (s : Checkpoint). JoinsBase app limits (base events) s.kernel s.before)
         one_joins (slice_get checkpoints number) (are number)

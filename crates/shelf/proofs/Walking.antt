@@ -20,7 +20,8 @@ module _ (app : Application) (inside limits : Limits) (same : inside ≡ limits)
   -- the kernel goes on, and what it reports on the way is counted
   pub is_walk : (old : Walk) → IsWalk app limits old → (new : Machine) (before after : List Event)
       → IsLed app inside old.kernel new before after → IsUnderWay app [] inside new
-      → (count : ℕ) → count ≡ old.before + (length after - length before) → IsWalk app limits (record { kernel = new; before = count })
+      → (count : ℕ) → count ≡ old.before + (length after - length before)
+      → IsWalk app limits (record { kernel = new; before = count })
   is_walk old is new before after led way count sum =
       let was : IsWalk app inside old = rw same is in
       let more = ap length (led.leads.events [] (past_none app inside old.kernel was.way)) in

@@ -15,4 +15,5 @@ pub record JoinsBase (app : Application) (limits : Limits) (base : Run) (k : Mac
 -- It does so at each of these checkpoints, after the events that the base run had reported by then.
 abbrev pub AreRests : Application → Limits → Run → List Checkpoint → Type 0
 AreRests app limits base checkpoints =
-    (number : ℕ) → IfSome (slice_get checkpoints number) (λ (checkpoint : Checkpoint). JoinsBase app limits base checkpoint.kernel checkpoint.before)
+    (number : ℕ) → IfSome (slice_get checkpoints number)
+    (λ (checkpoint : Checkpoint). JoinsBase app limits base checkpoint.kernel checkpoint.before)

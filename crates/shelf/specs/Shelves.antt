@@ -17,7 +17,8 @@ pub record IsCheckpoint (app : Application) (limits : Limits) (step : ℕ) (chec
 
 -- These are the checkpoints before steps 0, stride, 2 stride and so on.
 abbrev pub AreCheckpoints : Application → Limits → (stride : ℕ) → List Checkpoint → Type 0
-AreCheckpoints app limits stride checkpoints = (number : ℕ) → IfSome (slice_get checkpoints number) (IsCheckpoint app limits (number * stride))
+AreCheckpoints app limits stride checkpoints =
+    (number : ℕ) → IfSome (slice_get checkpoints number) (IsCheckpoint app limits (number * stride))
 
 -- a base run, its limits, and the checkpoints along it
 pub record Shelved : Type 0 where
@@ -34,8 +35,8 @@ pub record IsShelf (app : Application) (shelf : Shelved) : Type 0 where
   pub rests : AreRests app shelf.limits shelf.base shelf.checkpoints
   pub enough : shelf.base.steps ≤ length shelf.checkpoints * shelf.stride
 
--- How many steps of the base run lead to this one: from where a walk is, or from the checkpoint before, whichever is nearer; from the
--- checkpoint if the walk is past it.
+-- How many steps of the base run lead to this one: from where a walk is, or from the checkpoint before, whichever is nearer; from
+-- the checkpoint if the walk is past it.
 abbrev pub way_to : (stride walked step : ℕ) → ℕ
 way_to stride walked step = if nat_le walked step then min (step - walked) (step % stride) else step % stride
 

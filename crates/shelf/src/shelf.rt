@@ -1,6 +1,6 @@
 //! A base run with its checkpoints, and rows that begin from it.
-ghost use Rattle.std.specs.Prelude.{◌≡◌, nat_lt, ◌<◌, ◌≤◌, ◌+◌, ◌-◌, ◌%◌, ◌^◌, ◌++◌, Bool, false, true, [], min, length, take, None, IfOk};
-ghost use Rattle.std.specs.Prelude.{IfSome, OnErr, OnOk};
+ghost use Rattle.std.specs.Prelude.{◌≡◌, nat_lt, ◌<◌, ◌≤◌, ◌+◌, ◌-◌, ◌%◌, ◌^◌, ◌++◌, Bool, false, true, [], min, length, take};
+ghost use Rattle.std.specs.Prelude.{None, IfOk, IfSome, OnErr, OnOk};
 ghost use Rattle.model.specs.Points.{first_step, last_step};
 ghost use Rattle.model.specs.Application.{Application};
 ghost use Rattle.model.specs.Run as definition;

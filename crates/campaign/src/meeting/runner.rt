@@ -62,7 +62,12 @@ fn shared_by(base: &Run, view: View) -> usize
 
 // The rest of a row that ended in this way: nothing more.
 fn ahead_of(ending: RestEnding, base: &Run) -> Ahead
-    ensures { result ≡ record { link = links.Base (length base.now.events); steps = ending.steps; ticks = ending.ticks; end = ending.end } }
+    ensures { result ≡ record {
+      link = links.Base (length base.now.events);
+      steps = ending.steps;
+      ticks = ending.ticks;
+      end = ending.end;
+    } }
 {
     Ahead {
         link: end_of_base(base),

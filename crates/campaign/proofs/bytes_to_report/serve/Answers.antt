@@ -21,5 +21,6 @@ returns g c =
     let input = g.R.Source.left c.args.reader.now in
     subst (λ (failed : Bool).
     ServesCampaign c.args.view c.args.shard (streams_of input failed (g.W.Sink.held c.args.writer.now)
-    (g.W.Sink.held c.serve_campaign_of_app.new.writer) (g.W.Sink.has_failed c.serve_campaign_of_app.new.writer)) c.serve_campaign_of_app.result)
+    (g.W.Sink.held c.serve_campaign_of_app.new.writer) (g.W.Sink.has_failed c.serve_campaign_of_app.new.writer))
+    c.serve_campaign_of_app.result)
     (sym c.in_ok-app.ensures.read) (c.serve_campaign_of_app.ensures input file.0 file.1 file.2)

@@ -14,7 +14,8 @@ invariant-legs g l = record {
   sent : Sent (g.W.Sink.held l.fn.writer) (g.W.Sink.held l.writer)
       (l.fn.text.page
       ++ flat_map (event_text l.fn.text.app) (linked_events l.events.base.now.events (store_of l.events.part.now) l.fn.first))
-      (l.text.page ++ flat_map (event_text l.fn.text.app) (linked_events l.events.base.now.events (store_of l.events.part.now) l.link));
+      (l.text.page
+      ++ flat_map (event_text l.fn.text.app) (linked_events l.events.base.now.events (store_of l.events.part.now) l.link));
   working : g.W.Sink.has_failed l.writer ≡ false;
 }
 

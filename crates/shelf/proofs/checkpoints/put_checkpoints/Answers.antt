@@ -87,8 +87,8 @@ checkpoints-preserved c =
                 c.len.ensures ∙ ap length events ∙ ap (λ (n : ℕ). length (events_after c.args.app.now c.args.limits.now [] n)) put;
           });
       behind =
-          put_behind c.args.app.now c.args.limits.now c.go_far.new.kernel (all_of c.go_far.new.trail) c.checkpoints.checkpoints.items
-          c.push.new.self.items _ c.in_ok-push.ensures.items c.in_ok-snapshot.ensures c.len.ensures
+          put_behind c.args.app.now c.args.limits.now c.go_far.new.kernel (all_of c.go_far.new.trail)
+          c.checkpoints.checkpoints.items c.push.new.self.items _ c.in_ok-push.ensures.items c.in_ok-snapshot.ensures c.len.ensures
           (all_on c.args.app.now c.args.limits.now (all_of c.checkpoints.trail) (all_of c.go_far.new.trail) c.checkpoints.kernel
           c.go_far.new.kernel c.in_ok-ending.ensures.led c.checkpoints.checkpoints.items c.checkpoints.invariant.behind);
       next =

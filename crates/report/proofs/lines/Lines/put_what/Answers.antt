@@ -21,8 +21,8 @@ line_of_event app seen event said start front mid answer end shown is text begun
 
 pub returns-in-Call-clause-text : goal.returns-in-Call-clause-text
 returns-in-Call-clause-text c =
-    line_of_event c.self.inside.labels c.args.self.now (what.Call c.in-Call.task c.in-Call.op_index c.in-Call.answer) c.args.what.now
-    (take c.args.at c.args.bytes.now) (call_front c.self.inside.labels c.in-Call.task c.in-Call.op_index)
+    line_of_event c.self.inside.labels c.args.self.now (what.Call c.in-Call.task c.in-Call.op_index c.in-Call.answer)
+    c.args.what.now (take c.args.at c.args.bytes.now) (call_front c.self.inside.labels c.in-Call.task c.in-Call.op_index)
     (take c.put_call-at.result c.put_call-at.new.bytes) (decimal c.in-Call.answer) (take c.put_last.result c.put_last.new.bytes)
     c.self.view_is c.in-Call.is refl c.put_call-at.ensures.text c.put_last.ensures.text
 
@@ -36,8 +36,8 @@ returns-in-CallNone-clause-text c =
 
 pub returns-in-Obeyed-clause-text : goal.returns-in-Obeyed-clause-text
 returns-in-Obeyed-clause-text c =
-    line_of_event c.self.inside.labels c.args.self.now (what.Obeyed c.in-Obeyed.task c.in-Obeyed.clear c.in-Obeyed.bits) c.args.what.now
-    (take c.args.at c.args.bytes.now) (obeyed_front c.self.inside.labels c.in-Obeyed.task c.in-Obeyed.clear)
+    line_of_event c.self.inside.labels c.args.self.now (what.Obeyed c.in-Obeyed.task c.in-Obeyed.clear c.in-Obeyed.bits)
+    c.args.what.now (take c.args.at c.args.bytes.now) (obeyed_front c.self.inside.labels c.in-Obeyed.task c.in-Obeyed.clear)
     (take c.put_obeyed-at.result c.put_obeyed-at.new.bytes) (decimal c.in-Obeyed.bits)
     (take c.put_last-in-Obeyed.result c.put_last-in-Obeyed.new.bytes)
     c.self.view_is c.in-Obeyed.is refl c.put_obeyed-at.ensures.text c.put_last-in-Obeyed.ensures.text

@@ -14,7 +14,8 @@ returns-then-is_at c = record {
       let shelf = c.args.self.now in
       let number = c.steps.result / c.self.inside.stride in
       let found = c.in_ok-checkpoint.ensures.lookup in
-      let same : c.deref.result.now ≡ shelf.checkpoints = c.deref.ensures.value ∙ ap (λ (v : Shelved). v.checkpoints) c.self.view_is in
+      let same : c.deref.result.now ≡ shelf.checkpoints =
+      c.deref.ensures.value ∙ ap (λ (v : Shelved). v.checkpoints) c.self.view_is in
       let below : number < length shelf.checkpoints = subst (λ (ss : List Checkpoint). number < length ss) same found.3.0 in
       let here : get_or shelf.checkpoints number checkpoint ≡ checkpoint =
       sym (subst (λ (ss : List Checkpoint). checkpoint ≡ get_or ss number checkpoint) same found.1) in

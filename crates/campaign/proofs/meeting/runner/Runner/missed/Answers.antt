@@ -14,7 +14,8 @@ returns c =
     let shared =
     subst (λ (r : Run). c.shared_by.result ≡ (if shows_events c.args.setup.now.view.now r.end then length r.events else 0))
     (sym c.base.view_is) c.shared_by.ensures in
-    let at_end = subst (λ (r : Run). c.end_of_base.result ≡ links.Base (length r.events)) (sym c.base.view_is) c.end_of_base.ensures in
+    let at_end = subst (λ (r : Run). c.end_of_base.result ≡ links.Base (length r.events)) (sym c.base.view_is)
+    c.end_of_base.ensures in
     missed_row c.args.setup.now.app.now shelf.limits c.args.setup.now.view.now shelf.base c.requires.setup.is_base
     c.args.point.now (store_in c.args.self.now) c.requires.legs _ _ _ same c.requires.missed
     shared at_end

@@ -12,5 +12,6 @@ loop-passed-preserved c =
       right =
           right_then c.args.number c.args.rest.now c.args.self.now.passed.items c.args.self.now.table.visited.items
           c.loop-passed.self.passed.items c.loop-passed.self.table.visited.items
-          c.in-Some.passed step c.pop.new.self.items c.put.new.self.visited.items c.loop-passed.invariant.right popped c.put.ensures;
+          c.in-Some.passed step c.pop.new.self.items c.put.new.self.visited.items c.loop-passed.invariant.right popped
+          c.put.ensures;
     }

@@ -68,7 +68,8 @@ returns-clause-visited c =
     let still =
     still_visited app shelf.limits view shelf.base (store_in c.args.self.now) new c.requires.legs
     (returns-clause-row c).grows c.args.self.now.table.visited.items c.requires.visited in
-    let before = subst (λ (t : VisitedStates). AreVisited app shelf.limits view shelf.base new t.visited.items) (sym rest.table) still in
+    let before = subst (λ (t : VisitedStates). AreVisited app shelf.limits view shelf.base new t.visited.items)
+    (sym rest.table) still in
     closed.visited app shelf.limits view shelf.base new before
     (all_closed app shelf.limits view shelf.base over new c.in_ok-rest.rest legs
     (ap all_of closed.trail) closed.legs c.rest.new.self.passed.items rest.passed)
@@ -84,7 +85,8 @@ returns-then-not-shows_events-clause-row c =
     let goes : IsRestOf c.args.setup.now.app.now shelf.limits c.args.setup.now.view.now shelf.base
     mid over c.args.point.now c.begin_row_after.new.simulation.kernel c.in_ok-rest.rest =
     rest.rest in
-    let at_end = subst (λ (b : Run). c.end_of_base.result ≡ links.Base (length b.events)) c.base-base.ensures c.end_of_base.ensures in
+    let at_end = subst (λ (b : Run). c.end_of_base.result ≡ links.Base (length b.events)) c.base-base.ensures
+    c.end_of_base.ensures in
     bare_row c.args.setup.now.app.now shelf.limits c.args.setup.now.view.now shelf.base c.requires.setup.is_base
     c.args.point.now (store_in c.args.self.now) mid over c.begin_row_after.new.simulation.kernel c.in_ok-begun.begun
     c.requires.legs begun.begun refl c.in_ok-rest.rest goes (ap (λ v. v.items) rest.legs)
@@ -104,7 +106,8 @@ returns-then-not-shows_events-clause-visited c =
     let still =
     still_visited app shelf.limits view shelf.base (store_in c.args.self.now) new c.requires.legs
     (returns-then-not-shows_events-clause-row c).grows c.args.self.now.table.visited.items c.requires.visited in
-    let before = subst (λ (t : VisitedStates). AreVisited app shelf.limits view shelf.base new t.visited.items) (sym rest.table) still in
+    let before = subst (λ (t : VisitedStates). AreVisited app shelf.limits view shelf.base new t.visited.items)
+    (sym rest.table) still in
     closed.visited app shelf.limits view shelf.base new before
     (all_bare app shelf.limits view shelf.base over new _ c.in_ok-rest.rest
     (sym c.shows_events.ensures ∙ c.if-not-shows_events.true) c.rest.new.self.passed.items rest.passed)

@@ -62,7 +62,8 @@ meeting_steps-preserved c =
       led =
           rw (c.note.ensures.kernel, c.note.ensures.trail)
           (led_then app limits c.args.self.now.simulation.kernel old new _ _ _ c.meeting_steps.invariant.led step);
-      past = rw c.note.ensures.kernel (past_on app limits old new step.own step.leads c.args.injections.now c.meeting_steps.invariant.past);
+      past = rw c.note.ensures.kernel (past_on app limits old new step.own step.leads c.args.injections.now
+          c.meeting_steps.invariant.past);
       goes = rw (c.note.ensures.kernel, there) goes;
       passed = rw (c.note.ensures.kernel, c.note.ensures.trail) (c.note.ensures.passed app limits behind);
       table = c.note.ensures.table ∙ c.meeting_steps.invariant.table;
