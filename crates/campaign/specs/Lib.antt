@@ -2,7 +2,6 @@ pub mod Campaigns
 pub mod Faults
 pub mod Kinds
 pub mod Made
-pub mod Visited
 pub mod Named
 pub mod OneRun
 pub mod Points
@@ -11,4 +10,5 @@ pub mod Seen
 pub mod Serving
 pub mod Setup
 pub mod Shown
+pub mod Visited
 pub mod Working

@@ -1,10 +1,10 @@
 mod Cursors
 mod Inboxes
+mod LegByLeg
 pub mod Linked
 pub mod LookedUp
 mod Pieces
 pub mod Placed
 mod Sending
 mod Stretched
-mod LegByLeg
 pub mod Totalling

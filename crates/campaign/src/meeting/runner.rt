@@ -5,10 +5,10 @@ ghost use Rattle.model.specs.Points.{first_step, last_step};
 ghost use Rattle.machine.specs.Logged.{all_of};
 ghost use Rattle.report.specs.Views.{shows_events};
 ghost use Rattle.rows.specs.declared.link.Link.TheVariants as links;
-ghost use Rattle.campaign.specs.Visited.{ArePut, IsNoted};
-ghost use Rattle.campaign.specs.Running.{ArePassed, HasLegs, HasVisited, HasPassed, IsAheadOf, IsLedOn, IsOnWay, IsPastAll};
+ghost use Rattle.campaign.specs.Running.{ArePassed, HasLegs, HasPassed, HasVisited, IsAheadOf, IsLedOn, IsOnWay, IsPastAll};
 ghost use Rattle.campaign.specs.Running.{IsRestOfRow, RunsRow, end_at};
 ghost use Rattle.campaign.specs.Setup.{IsSetup, IsWalkOf, is_reached_in};
+ghost use Rattle.campaign.specs.Visited.{ArePut, IsNoted};
 
 use crate::meeting::ahead::Ahead;
 use crate::meeting::meeting_steps::next_meeting_step;
