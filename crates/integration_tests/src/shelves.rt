@@ -1,4 +1,4 @@
-//! Rows that begin from the nearest stop before their point, or from a walk along the base run.
+//! Rows that begin from the nearest checkpoint before their point, or from a walk along the base run.
 ghost use Rattle.std.specs.Prelude.{◌<◌, ◌≤◌};
 
 use crate::loading::loaded;
@@ -14,7 +14,7 @@ handler = [{ name = 'h', ops = ['send q 7', 'receive q'] }]
 task = [{ name = 'a', priority = 1, script = ['receive q 1'] }]
 ";
 
-/// What the row of a point costs, with a stop before every step that is a multiple of `stride`.
+/// What the row of a point costs, with a checkpoint before every step that is a multiple of `stride`.
 #[derive(Clone, Copy)]
 struct Cost {
     stride: u32,
@@ -127,7 +127,8 @@ fn row_of_two(rt: &impl Abort, alloc: Global, app: &App, stride: u32, steps: [u3
     row_of(rt, alloc, app, stride, point)
 }
 
-/// How many events the base run had reported by the stop before step 6, if the row of the first handler before this step reaches it.
+/// How many events the base run had reported by the checkpoint before step 6, if the row of the first handler before this step
+/// reaches it.
 fn known_at_six(rt: &impl Abort, alloc: Global, app: &App, step: u32) -> Option<usize>
     requires { step < 6 }
 {
@@ -150,7 +151,7 @@ fn known_at_six(rt: &impl Abort, alloc: Global, app: &App, step: u32) -> Option<
 }
 
 #[test]
-fn a_row_costs_the_steps_from_the_stop_before_its_point(rt: HostRuntime) {
+fn a_row_costs_the_steps_from_the_checkpoint_before_its_point(rt: HostRuntime) {
     let app = loaded(&rt, rt.alloc(), RECEIVE);
     for cost in COSTS.iter() {
         let stride = cost.stride.clamp(1, 65_536);
@@ -181,9 +182,9 @@ fn a_row_of_two_injections(rt: HostRuntime) {
     let app = loaded(&rt, rt.alloc(), RECEIVE);
     for stride in 1..9_u32 {
         let (row, run) = row_of_two(&rt, rt.alloc(), &app, stride, [3, 10]);
-        let stop = 3 / stride * stride;
+        let checkpoint = 3 / stride * stride;
         assert!(rt; row.reached && row.run.steps == 17, "stride {stride}");
-        assert!(rt; run == u64::from(17 - stop), "stride {stride}");
+        assert!(rt; run == u64::from(17 - checkpoint), "stride {stride}");
     }
 }
 
