@@ -169,8 +169,8 @@ impl Spacing {
     /// processor's cache. If rows are run far, each state that is found saves many steps.
     pub(crate) fn room(&self) -> Room {
         let most = if self.phase > 0 {
-            let visited = self.phase.saturating_mul(STATES_OF_A_STEP);
-            visited.saturating_add(STATES_OF_A_BLOCK).min(MOST_STATES)
+            let states = self.phase.saturating_mul(STATES_OF_A_STEP);
+            states.saturating_add(STATES_OF_A_BLOCK).min(MOST_STATES)
         } else {
             self.room
         };
@@ -186,8 +186,8 @@ impl Spacing {
         if self.phase > 0 {
             return;
         }
-        let visited = (visited.min(MOST as usize) as u32).saturating_mul(COST_OF_A_LOOK);
-        let cost = steps.saturating_add(visited).min(MOST);
+        let looks = (visited.min(MOST as usize) as u32).saturating_mul(COST_OF_A_LOOK);
+        let cost = steps.saturating_add(looks).min(MOST);
         self.cost = self.cost.saturating_add(cost);
         self.rows = self.rows.saturating_add(1);
         if self.rows >= ROWS {
