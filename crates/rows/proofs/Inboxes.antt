@@ -6,9 +6,9 @@ use Rattle.rtrb.specs.Ends.{SameRing}
 use Rattle.rtrb.specs.Ring.{received, IsPair, SameConsumer, SameProducer}
 use Rattle.rtrb.specs.declared.end.End.{End}
 use Rattle.rtrb.specs.declared.producer.Producer.{Producer}
-use Rattle.rows.specs.declared.inbox.Inbox.{Inbox}
-use Rattle.rows.specs.declared.renderer.Renderer.{Renderer}
-use Rattle.rows.specs.declared.renderer.Rendering.{Rendering}
+use Rattle.rows.specs.declared.rendering.inbox.Inbox.{Inbox}
+use Rattle.rows.specs.declared.rendering.renderer.Renderer.{Renderer}
+use Rattle.rows.specs.declared.rendering.renderer.Rendering.{Rendering}
 use Rattle.rows.specs.Pieces.{AreFresh, ArePairs, GoesOn, GoOn, HasReceived, HasSent, HaveReceived, HaveSent, IsRight}
 
 -- ---- ends of rings

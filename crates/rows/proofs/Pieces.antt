@@ -10,7 +10,7 @@ use Rattle.report.proofs.Views.{shown-append}
 use Rattle.report.specs.Views.{shown_rows}
 use Rattle.report.specs.declared.view.View.{View}
 use Rattle.rows.specs.declared.campaign_report.Rows.{Rows}
-use Rattle.rows.specs.declared.piece.Piece.{Piece}
+use Rattle.rows.specs.declared.rendering.piece.Piece.{Piece}
 use Rattle.rows.specs.Report.{whole}
 use Rattle.rows.specs.Pieces.{some_of, piece_text, ArePieces, IsPiece}
 use Rattle.rows.proofs.Sending.{front_more, sent_more}

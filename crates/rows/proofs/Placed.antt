@@ -1,12 +1,11 @@
 -- Where blocks are put.
-use Rattle.std.proofs.Common.{◌≡◌, ◌<◌, ◌+◌, ℕ, zero, suc, List, [], ◌∷◌, length, drop, slice_index_or, set, refl, sym, ap, subst}
+use Rattle.std.proofs.Common.{◌≡◌, ◌<◌, ℕ, zero, suc, List, [], ◌∷◌, length, slice_index_or, set, refl, sym, subst}
 use Rattle.std.proofs.Common.{◌∙◌, arith}
 use Rattle.std.specs.List.{AllByRecursion}
-use Rattle.std.proofs.lemmas.List.{drop_more, length-set}
+use Rattle.std.proofs.lemmas.List.{length-set}
 use Rattle.rows.specs.declared.rows.KeptBlock.{KeptBlock}
-use Rattle.rows.specs.declared.rows.Part.{Part}
 use Rattle.rows.specs.declared.rows.Place.{Place}
-use Rattle.rows.specs.Placing.{place_of, placed, all_placed}
+use Rattle.rows.specs.Placing.{place_of, placed}
 
 pub length-placed : (part : ℕ) (blocks : List KeptBlock) (places : List Place) → length (placed part blocks places) ≡ length places
 length-placed part [] places = refl

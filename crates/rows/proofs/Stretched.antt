@@ -9,8 +9,8 @@ use Rattle.model.specs.declared.event.Event.{Event}
 use Rattle.report.specs.Writing.{Events}
 use Rattle.rows.specs.declared.campaign_report.Rows.{Rows}
 use Rattle.rows.specs.declared.rows.Part.{Part}
-use Rattle.rows.specs.declared.stretches.Found.{Found}
-use Rattle.rows.specs.declared.stretches.Stretch.{Stretch}
+use Rattle.rows.specs.declared.rendering.stretches.Found.{Found}
+use Rattle.rows.specs.declared.rendering.stretches.Stretch.{Stretch}
 use Rattle.rows.specs.Stretches.{AreOf, AreOfPart, IsStretch, IsTail}
 
 -- what holds of the element at each place holds of each that is got

@@ -4,8 +4,8 @@ use Rattle.machine.specs.Logged.{all_of}
 use Rattle.model.specs.Application.{Application}
 use Rattle.model.specs.Campaign.{Row}
 use Rattle.report.specs.Text.{row_text}
-use Rattle.rows.specs.declared.part_events.KnownRow.{KnownRow}
-use Rattle.rows.specs.declared.part_events.PartEvents.{PartEvents}
+use Rattle.rows.specs.declared.rendering.part_events.KnownRow.{KnownRow}
+use Rattle.rows.specs.declared.rendering.part_events.PartEvents.{PartEvents}
 use Rattle.rows.specs.declared.rows.KeptRow.{KeptRow}
 use Rattle.rows.specs.Links.{AreLegs}
 use Rattle.rows.specs.Report.{row_of, store_of, IsKept}

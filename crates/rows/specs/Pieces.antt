@@ -8,11 +8,11 @@ use Rattle.model.specs.Campaign.{Row}
 use Rattle.report.specs.Views.{shown_rows}
 use Rattle.rows.specs.declared.campaign_report.Rows.{Rows}
 use Rattle.rows.specs.declared.cursor.Cursor.{Cursor}
-use Rattle.rows.specs.declared.inbox.Inbox.{Inbox}
-use Rattle.rows.specs.declared.piece.Piece.{Piece}
-use Rattle.rows.specs.declared.renderer.Rendered.{Rendered}
-use Rattle.rows.specs.declared.renderer.Renderer.{Renderer}
-use Rattle.rows.specs.declared.renderer.Rendering.{Rendering}
+use Rattle.rows.specs.declared.rendering.inbox.Inbox.{Inbox}
+use Rattle.rows.specs.declared.rendering.piece.Piece.{Piece}
+use Rattle.rows.specs.declared.rendering.renderer.Rendered.{Rendered}
+use Rattle.rows.specs.declared.rendering.renderer.Renderer.{Renderer}
+use Rattle.rows.specs.declared.rendering.renderer.Rendering.{Rendering}
 use Rattle.rows.specs.Report.{rows_at, whole, IsSound}
 
 -- The rows after the cursor are those of its place, without the first `row` of them, and those of the places after it.

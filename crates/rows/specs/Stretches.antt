@@ -6,8 +6,8 @@ use Rattle.model.specs.declared.event.Event.{Event}
 use Rattle.report.specs.Writing.{Events}
 use Rattle.rows.specs.declared.campaign_report.Rows.{Rows}
 use Rattle.rows.specs.declared.rows.Part.{Part}
-use Rattle.rows.specs.declared.stretches.Stretch.{Stretch}
-use Rattle.rows.specs.declared.stretches.Found.{Found}
+use Rattle.rows.specs.declared.rendering.stretches.Stretch.{Stretch}
+use Rattle.rows.specs.declared.rendering.stretches.Found.{Found}
 
 -- The stretch has the application's events of the trail between its places.
 pub record IsStretch (app : Application) (trail : List Event) (stretch : Stretch) : Type 0 where

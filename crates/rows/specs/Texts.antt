@@ -4,7 +4,7 @@ use Rattle.byte_io.specs.Buffers.{bytes_of}
 use Rattle.model.specs.Application.{Application}
 use Rattle.report.specs.Text.{row_text}
 use Rattle.rows.specs.declared.campaign_report.Rows.{Rows}
-use Rattle.rows.specs.declared.row_texts.RowText.{RowText}
+use Rattle.rows.specs.declared.rendering.row_texts.RowText.{RowText}
 use Rattle.rows.specs.declared.rows.KeptRow.{KeptRow}
 use Rattle.rows.specs.declared.rows.Part.{Part}
 use Rattle.rows.specs.Report.{row_of, store_of}

@@ -3,23 +3,15 @@
 
 mod campaign_report;
 mod cursor;
-mod inbox;
 mod kept_rows;
-mod lanes;
 mod link;
-mod part_events;
-mod piece;
 mod placing;
-mod renderer;
-mod row_texts;
+mod rendering;
 mod rows;
-mod side_by_side;
-mod stretches;
-mod writing;
 
 pub use campaign_report::{Report, Rows};
 pub use kept_rows::KeptRows;
 pub use link::{Leg, Link};
 pub use placing::places_of;
+pub use rendering::{write_report, write_report_in_threads};
 pub use rows::{KeptBlock, KeptRow, Part, Place};
-pub use writing::{write_report, write_report_in_threads};
