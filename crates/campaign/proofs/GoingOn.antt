@@ -62,7 +62,7 @@ rest_found visited place v k below found steps alike app limits view base store 
     record {
       events = there.events;
       linked = there.linked;
-      is_rest = rest_alike app limits k m.kernel.value _ steps alike there.is_rest;
+      is_rest = rest_alike app limits k v.kernel.value _ steps alike there.is_rest;
     }
 
 -- ---- kernels on the way

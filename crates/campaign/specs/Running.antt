@@ -82,14 +82,14 @@ ArePassed setup runner rest = AllByRecursion
 -- what it knows of its rows, and of its runner's legs and visited states
 abbrev pub KnowsRows : Setup → Worker → Type 0
 KnowsRows setup worker = Knows setup.app.now setup.shelf.now.limits setup.view.now setup.shelf.now.base
-    worker.kept (store_in worker.runner) worker.runner.table.visited.items
+    worker.kept (store_in worker.runner.value) worker.runner.value.table.visited.items
 
 -- The row of this point comes after the rows that it had, and has this outcome.
 abbrev pub MakesRow : Setup → (point : List Injection) → (old new : Worker) → Outcome → Type 0
 MakesRow setup point old new outcome = KeepsRow setup.app.now setup.shelf.now.limits setup.view.now setup.shelf.now.base
-    point old.kept new.kept (store_in old.runner) (store_in new.runner) outcome
+    point old.kept new.kept (store_in old.runner.value) (store_in new.runner.value) outcome
 
 -- Those of these points do, and the seat counted them.
 abbrev pub MakesRows : Setup → (points : List (List Injection)) → (old new : Worker) → (seat seat' : Tallied) → Type 0
 MakesRows setup points old new seat seat' = GainsRows setup.app.now setup.shelf.now.limits setup.view.now setup.shelf.now.base
-    points old.kept new.kept (store_in old.runner) (store_in new.runner) seat seat'
+    points old.kept new.kept (store_in old.runner.value) (store_in new.runner.value) seat seat'

@@ -1,5 +1,5 @@
 //! A worker, which makes the rows of the blocks that its lane returns.
-ghost use Rattle.std.specs.Prelude.{◌≡◌, ◌<◌, ◌≤◌, ◌+◌, ◌^◌, ◌++◌, ◌∷◌, ℕ, [], None, length, slice_index, sum, take, drop};
+ghost use Rattle.std.specs.Prelude.{◌≡◌, ◌<◌, ◌≤◌, ◌+◌, ◌^◌, ◌++◌, ◌∷◌, ℕ, [], None, true, length, slice_index, sum, take, drop};
 ghost use Rattle.std.specs.Prelude.{IfOk, IfSome, OnOk};
 ghost use Rattle.model.specs.Application.{Limits};
 ghost use Rattle.shelf.specs.Walks.{IsWalk};
@@ -13,6 +13,7 @@ use crate::recent::Recent;
 use crate::setup::Setup;
 use crate::tallying::RowCounts;
 use deal::{Lane, Next, TallySeat};
+use kernel::Trail;
 use model::{App, End, Memory, Point};
 use rows::{KeptBlock, KeptRow, KeptRows, Part};
 use shelf::Walk;
@@ -43,8 +44,8 @@ pub(crate) struct Done {
 // What a worker has of its own: what it runs rows with, how far it has gone along the base run, and the rows that it made.
 #[derive(Drop)]
 struct Worker {
-    runner: Runner,
-    walk: Walk,
+    runner: Box<Runner>,
+    walk: Box<Walk>,
     kept: KeptRows,
     blocks: Vec<KeptBlock>,
     recent: Recent,
@@ -84,34 +85,56 @@ fn again(kept: &KeptRows, recent: &Recent, point: &Point) -> Option<usize>
     }
 }
 
+// A runner in memory of its own, since it is large. Its rows will look for visited states as the shelf and the timers say.
+#[inline(never)]
+fn boxed_runner(alloc: Global, setup: &Setup<'_>) -> Result<Box<Runner>, Memory>
+    ensures legs { IfOk result (λ runner. runner.value.legs.items ≡ []) }
+    ensures visited { IfOk result (λ runner. runner.value.table.visited.items ≡ []) }
+{
+    let timers = Timers::of(setup.app, setup.shelf.base(), setup.view);
+    let spacing = Spacing::new(setup.shelf.stride(), timers);
+    let runner = Box::new(alloc, Runner::new(alloc, setup.app, spacing))?;
+    Ok(runner)
+}
+
+// A walk before the first step, in memory of its own.
+#[inline(never)]
+fn boxed_walk(alloc: Global, app: &App) -> Result<Box<Walk>, Memory>
+    ensures { IfOk result (λ walk. (limits : Limits) → IsWalk app.now limits walk.value) }
+{
+    let walk = Box::new(alloc, Walk::new(app))?;
+    Ok(walk)
+}
+
 impl Worker {
-    // A worker that has made nothing, with this room for rows, whose rows will look for visited states in this way.
-    fn new(alloc: Global, app: &App, spacing: Spacing, kept: KeptRows) -> Worker
-        ensures walk { (limits : Limits) → IsWalk app.now limits result.walk }
-        ensures kept { result.kept ≡ kept }
-        ensures blocks { result.blocks.items ≡ [] }
-        ensures legs { result.runner.legs.items ≡ [] }
-        ensures visited { result.runner.table.visited.items ≡ [] }
+    // A worker that has made nothing, and has no room for rows yet.
+    fn make(alloc: Global, setup: &Setup<'_>) -> Result<Worker, Memory>
+        ensures walk { IfOk result (λ worker. (limits : Limits) → IsWalk setup.now.app.now limits worker.walk.value) }
+        ensures blocks { IfOk result (λ worker. worker.blocks.items ≡ []) }
+        ensures legs { IfOk result (λ worker. worker.runner.value.legs.items ≡ []) }
+        ensures visited { IfOk result (λ worker. worker.runner.value.table.visited.items ≡ []) }
     {
-        Worker {
-            runner: Runner::new(alloc, app, spacing),
-            walk: Walk::new(app),
-            kept,
+        let runner = boxed_runner(alloc, setup)?;
+        let walk = boxed_walk(alloc, setup.app)?;
+        Ok(Worker {
+            runner,
+            walk,
+            kept: KeptRows::with_room(alloc, 0),
             blocks: Vec::new(alloc),
             recent: Recent::new(),
-        }
+        })
     }
 
     // Keeps the row of a point: once more that of the same point before, if it is found, otherwise
     // it is made. Returns its outcome.
     fn keep_row(&mut self, setup: &Setup<'_>, point: &Point) -> Result<Outcome, Memory>
         requires setup { IsSetup setup.now }
-        requires walk { IsWalkOf setup.now self.old.walk }
+        requires walk { IsWalkOf setup.now self.old.walk.value }
         requires known { KnowsRows setup.now self.old }
-        ensures walk { OnOk result (IsWalkOf setup.now self.new.walk) }
+        ensures walk { OnOk result (IsWalkOf setup.now self.new.walk.value) }
         ensures blocks { self.new.blocks ≡ self.old.blocks }
         ensures row { IfOk result (MakesRow setup.now point.now self.old self.new) }
-        ensures visited { OnOk result (HasVisited setup.now self.new.runner) }
+        ensures visited { OnOk result (HasVisited setup.now self.new.runner.value) }
     {
         if let Some(number) = again(&self.kept, &self.recent, point) {
             let outcome = Outcome::of(self.kept.at(number));
@@ -134,10 +157,10 @@ impl Worker {
         point: &Point,
     ) -> Result<(), Memory>
         requires setup { IsSetup setup.now }
-        requires walk { IsWalkOf setup.now self.old.walk }
+        requires walk { IsWalkOf setup.now self.old.walk.value }
         requires known { KnowsRows setup.now self.old }
         requires room { (kind : ℕ) → kind < 7 → slice_index counts.old.kinds kind + 1 ≤ 2 ^ 40 }
-        ensures walk { OnOk result (IsWalkOf setup.now self.new.walk) }
+        ensures walk { OnOk result (IsWalkOf setup.now self.new.walk.value) }
         ensures known { OnOk result (KnowsRows setup.now self.new) }
         ensures blocks { self.new.blocks ≡ self.old.blocks }
         ensures row { OnOk result (MakesRows setup.now (point.now ∷ []) self.old self.new
@@ -158,12 +181,12 @@ impl Worker {
         count: usize,
     ) -> Result<(), Memory>
         requires setup { IsSetup setup.now }
-        requires walk { IsWalkOf setup.now self.old.walk }
+        requires walk { IsWalkOf setup.now self.old.walk.value }
         requires known { KnowsRows setup.now self.old }
         requires seat { seat.old.sheet ≡ setup.now.tally.now }
         requires points { first + count ≤ length setup.now.points.now }
         requires room { HasRoom count seat.old }
-        ensures walk { OnOk result (IsWalkOf setup.now self.new.walk) }
+        ensures walk { OnOk result (IsWalkOf setup.now self.new.walk.value) }
         ensures known { OnOk result (KnowsRows setup.now self.new) }
         ensures block { OnOk result (self.new.blocks.items ≡ self.old.blocks.items
             ++ record { number = number; first = length self.old.kept; count = count } ∷ []) }
@@ -188,19 +211,40 @@ impl Worker {
     }
 }
 
-/// Works until all blocks are handed out. If memory is refused it raises `stop`; if that is raised,
-/// it stops at its next block.
-pub(crate) fn work<R: Wait, G: Gate>(
+// What comes of a job that is refused.
+fn refused_job(alloc: Global, job: Job) -> Done
+    ensures { result.refused ≡ true }
+{
+    Done {
+        lane: job.lane,
+        seat: job.seat,
+        part: Part {
+            kept: job.kept,
+            trail: Trail::new(alloc),
+            legs: Vec::new(alloc),
+            blocks: Vec::new(alloc),
+        },
+        refused: true,
+    }
+}
+
+// Does the job with this worker, which has made nothing: works until all blocks are handed out. If memory is refused it raises
+// `stop`; if that is raised, it stops at its next block.
+fn work_with<R: Wait, G: Gate>(
     rt: &R,
-    alloc: Global,
     setup: &Setup<'_>,
     gate: &G,
     stop: &AtomicU64,
     job: Job,
+    made: Worker,
 ) -> Done
     requires setup { IsSetup setup.now }
     requires points { sum job.lane.game.lengths ≡ length setup.now.points.now }
     requires job { IsJob job.lane.game setup.now.tally.now (length setup.now.points.now) job }
+    requires walk { IsWalkOf setup.now made.walk.value }
+    requires blocks { made.blocks.items ≡ [] }
+    requires legs { made.runner.value.legs.items ≡ [] }
+    requires visited { made.runner.value.table.visited.items ≡ [] }
     ensures { IsDone (work_of setup.now job.lane.game.lengths) job result }
 {
     let Job {
@@ -209,9 +253,7 @@ pub(crate) fn work<R: Wait, G: Gate>(
         mut seat,
         kept,
     } = job;
-    let timers = Timers::of(setup.app, setup.shelf.base(), setup.view);
-    let spacing = Spacing::new(setup.shelf.stride(), timers);
-    let mut worker = Worker::new(alloc, setup.app, spacing, kept);
+    let mut worker = Worker { kept, ..made };
     let mut refused = true;
     for _ in rt.forever() {
         if stop.load(Ordering::SeqCst) != 0 {
@@ -240,14 +282,14 @@ pub(crate) fn work<R: Wait, G: Gate>(
             }
         }
     }
+    let (trail, legs) = worker.runner.take_trail_and_legs();
     let Worker {
-        runner,
         kept,
         blocks,
+        runner: _runner,
         recent: _recent,
         walk: _walk,
     } = worker;
-    let (trail, legs) = runner.into_trail_and_legs();
     Done {
         lane,
         seat,
@@ -258,5 +300,29 @@ pub(crate) fn work<R: Wait, G: Gate>(
             blocks,
         },
         refused,
+    }
+}
+
+/// Works until all blocks are handed out. If memory is refused it raises `stop`; if that is raised,
+/// it stops at its next block.
+pub(crate) fn work<R: Wait, G: Gate>(
+    rt: &R,
+    alloc: Global,
+    setup: &Setup<'_>,
+    gate: &G,
+    stop: &AtomicU64,
+    job: Job,
+) -> Done
+    requires setup { IsSetup setup.now }
+    requires points { sum job.lane.game.lengths ≡ length setup.now.points.now }
+    requires job { IsJob job.lane.game setup.now.tally.now (length setup.now.points.now) job }
+    ensures { IsDone (work_of setup.now job.lane.game.lengths) job result }
+{
+    match Worker::make(alloc, setup) {
+        Ok(worker) => work_with(rt, setup, gate, stop, job, worker),
+        Err(Memory) => {
+            stop.store(1, Ordering::SeqCst);
+            refused_job(alloc, job)
+        }
     }
 }

@@ -1,5 +1,5 @@
 //! The jobs of a campaign's workers, and what they bring.
-ghost use Rattle.std.specs.Prelude.{◌≡◌, ℕ, length, vec_len, IfOk, OnOk, ◌++◌, ◌∷◌, []};
+ghost use Rattle.std.specs.Prelude.{◌≡◌, ℕ, vec_len, IfOk, OnOk, ◌++◌, ◌∷◌, []};
 ghost use Rattle.std.specs.List.{list_any};
 ghost use Rattle.deal.specs.Sharing.{Game};
 ghost use Rattle.deal.specs.Tallies.{Sheet, added_in};

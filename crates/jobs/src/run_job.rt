@@ -109,6 +109,8 @@ pub fn conclude<F: Sink>(job: &Job<'_>, faults: &mut F, outcome: Result<bool, Jo
 }
 
 // Serves a run, and its end state if that is asked for. Returns whether the run passes.
+// A call, so that its kernel lies on the stack of no other job.
+#[inline(never)]
 fn serve_run_at<W: Sink>(
     alloc: Global,
     point: Option<NamedPoint<'_>>,
@@ -129,6 +131,7 @@ fn serve_run_at<W: Sink>(
 }
 
 // Serves a part of a campaign. Returns whether all its rows pass.
+#[inline(never)]
 fn serve_campaign<T: Threads + Wait + Sync, W: Sink, G: Gate + Sync>(
     host: &Host<'_, T, G>,
     view: View,

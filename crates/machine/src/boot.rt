@@ -99,6 +99,8 @@ impl Machine {
     }
 
     /// The kernel before any task has been Ready.
+    // A call, whose stack is free again when the kernel is there.
+    #[inline(never)]
     fn nobody_ready(app: &App) -> Self
         ensures stands { StandsFor result (nobody_ready app.now) }
         ensures calm { result.sched.depth ≡ 0 }

@@ -2,6 +2,8 @@
 //! placements end.
 #![tactic(auto)]
 
+ghost use Rattle.std.specs.Prelude.{◌<◌};
+
 mod counter;
 
 use crate::counter::Counter;
@@ -14,43 +16,49 @@ use std::num::NonZeroUsize;
 use std::process::ExitCode;
 use std::thread::{Threads, available_parallelism};
 
-// This many bytes of stack a campaign takes at most, and any other job less, and some more.
-const LARGE_STACK: usize = 880_640;
+// This many bytes of stack any job takes at most, and some more: those of exploring.
+const ANY_JOB: usize = 880_640;
+
+// And a campaign.
+const CAMPAIGN: usize = 634_880;
 
 // And a run that nothing else is asked of.
-const STACK: usize = 323_584;
+const RUN: usize = 323_584;
 
 // The status if the reader of standard output left (profile): 128 and the number of SIGPIPE, as a shell reports a program that this
 // signal ended.
 const READER_LEFT: u8 = 141;
 
-// Takes the stack of a campaign, and gives it back: it stays the program's. So
-// if a limit on all memory leaves no room for it, the program ends before it has done anything, and
-// otherwise the stack need not grow later. Returns 0 or 1, by what lies at `place`.
+// Takes this many bytes of stack, and gives them back: they stay the program's. So if a limit on all memory leaves no room for
+// them, the program ends before it has done anything, and otherwise the stack need not grow later. Returns 0 or 1, by what lies at
+// `place`.
 #[inline(never)]
-fn take_large_stack(place: usize) -> u8 {
-    let mut stack = [0_u8; LARGE_STACK];
-    stack[place % LARGE_STACK] = 1;
-    stack[place / 2 % LARGE_STACK]
+fn take_stack<const SIZE: usize>(place: usize) -> u8
+    requires some { 0 < SIZE }
+{
+    let mut stack = [0_u8; SIZE];
+    stack[place % SIZE] = 1;
+    stack[place / 2 % SIZE]
 }
 
-// The same of a run that nothing else is asked of, which then starts sooner.
-#[inline(never)]
-fn take_stack(place: usize) -> u8 {
-    let mut stack = [0_u8; STACK];
-    stack[place % STACK] = 1;
-    stack[place / 2 % STACK]
-}
-
-// Takes the stack that these words may ask for.
+// Takes the stack that these words may ask for: no more, since each page that is taken makes the start longer.
 #[inline(never)]
 fn take_stack_for(words: &[String]) -> u8 {
+    let mut has_options = false;
     for word in words {
-        if word.starts_with("--") || matches!(word.as_str(), "campaign" | "explore") {
-            return take_large_stack(words.len());
-        }
+        has_options |= word.starts_with("--");
     }
-    take_stack(words.len())
+    let job = match words.get(1) {
+        Some(word) => word.as_str(),
+        None => "",
+    };
+    if job == "campaign" {
+        take_stack::<CAMPAIGN>(words.len())
+    } else if job == "run" && !has_options {
+        take_stack::<RUN>(words.len())
+    } else {
+        take_stack::<ANY_JOB>(words.len())
+    }
 }
 
 fn arguments(rt: &HostRuntime) -> io::Result<Vec<String>> {

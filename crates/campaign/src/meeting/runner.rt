@@ -120,11 +120,13 @@ impl Runner {
         }
     }
 
-    /// The events of all rows, and their legs.
-    pub(crate) fn into_trail_and_legs(self) -> (Trail, Vec<Leg>)
-        ensures { result ≡ (self.simulation.trail, self.legs) }
+    /// The events of all rows, and their legs, which it has no more.
+    pub(crate) fn take_trail_and_legs(&mut self) -> (Trail, Vec<Leg>)
+        ensures { result ≡ (self.old.simulation.trail, self.old.legs) }
     {
-        (self.simulation.trail, self.legs)
+        let trail = std::mem::replace(&mut self.simulation.trail, Trail::new(self.alloc));
+        let legs = std::mem::replace(&mut self.legs, Vec::new(self.alloc));
+        (trail, legs)
     }
 
     // The rest of a row that has reached its end: nothing more.

@@ -17,7 +17,7 @@ loop-point-init c = record {
       rw c.new-counts.ensures
       (gains_none c.args.setup.now.app.now c.args.setup.now.shelf.now.limits
       c.args.setup.now.view.now c.args.setup.now.shelf.now.base c.args.self.now.kept
-      (store_in c.args.self.now.runner) (counted c.args.setup.now.tally.now zeros) c.requires.known.legs);
+      (store_in c.args.self.now.runner.value) (counted c.args.setup.now.tally.now zeros) c.requires.known.legs);
 }
 
 pub add_row-requires-clause-room : goal.add_row-requires-clause-room
@@ -78,8 +78,8 @@ returns-clause-rows c =
     let same = take_all c.loop-point.point-index points end ∙ ap (λ (n : ℕ). take n after) count in
     subst (λ (ps : List (List Injection)).
     GainsRows setup.app.now setup.shelf.now.limits setup.view.now setup.shelf.now.base
-    ps c.args.self.now.kept c.loop-point.self.kept (store_in c.args.self.now.runner)
-    (store_in c.loop-point.self.runner) c.args.seat.now c.add_to.new.seat)
+    ps c.args.self.now.kept c.loop-point.self.kept (store_in c.args.self.now.runner.value)
+    (store_in c.loop-point.self.runner.value) c.args.seat.now c.add_to.new.seat)
     same
     (gains_at_once setup.app.now setup.shelf.now.limits setup.view.now setup.shelf.now.base _ _ _ _ _ setup.tally.now
     c.loop-point.counts.kinds c.args.seat.now c.add_to.new.seat c.loop-point.invariant.rows c.add_to.ensures)

@@ -7,7 +7,7 @@ use Rattle.campaign.proofs.worker.Worker.add_block.Given as goal
 
 abbrev pub invariant-loop-point : goal.invariant-loop-point
 invariant-loop-point l = record {
-  walk : IsWalkOf l.setup l.self.walk;
+  walk : IsWalkOf l.setup l.self.walk.value;
   blocks : l.self.blocks ≡ l.fn.self.blocks;
   known : KnowsRows l.setup l.self;
   rows : MakesRows l.setup (take l.point-index l.points) l.fn.self l.self

@@ -10,9 +10,9 @@ returns-clause-row c =
     let setup = c.args.setup.now in
     let shelf = setup.shelf.now in
     let keeps = c.in_ok-outcome.ensures.row in
-    let store = store_in c.keep_row.new.self.runner in
+    let store = store_in c.keep_row.new.self.runner.value in
     gains_one setup.app.now shelf.limits setup.view.now shelf.base c.args.point.now c.args.self.now.kept c.keep_row.new.self.kept
-    (store_in c.args.self.now.runner) store
+    (store_in c.args.self.now.runner.value) store
     (counted setup.tally.now c.args.counts.now.kinds) (counted setup.tally.now c.count.new.self.kinds) keeps.row keeps.gains
     keeps.rows_are
     (c.count.ensures (row_of shelf.base store keeps.row) setup.tally.now
