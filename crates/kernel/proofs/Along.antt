@@ -7,10 +7,8 @@ use Rattle.model.specs.Application.{Application, Limits}
 use Rattle.model.specs.Scripts.{AreLimits, IsWellFormed}
 use Rattle.model.specs.State.{State}
 use Rattle.model.specs.Step.{step}
-use Rattle.model.specs.Invariant.{IsState}
 use Rattle.model.specs.Run.{end_of, events_after, injected, state_after}
 use Rattle.model.proofs.Injected.{from_here}
-use Rattle.soundness.proofs.Reached.{reached_after}
 use Rattle.soundness.proofs.Pending.{none_between}
 use Rattle.machine.specs.declared.machine.Machine.{Machine}
 use Rattle.machine.specs.StandsFor.{Stands}

@@ -1,7 +1,7 @@
 -- Interrupts that come before a step: after each of them the next one can come.
-use Rattle.std.proofs.Common.{◌≡◌, ◌<◌, ◌≤◌, ◌+◌, ◌*◌, ◌∙◌, ℕ, Bool, true, false, ltb, eqb, List, length, Option, ap, arith}
+use Rattle.std.proofs.Common.{◌≡◌, ◌≤◌, ◌+◌, ◌*◌, ◌∙◌, ℕ, Bool, true, false, ltb, eqb, List, length, Option, ap, arith}
 use Rattle.std.proofs.Common.{refl, sym, subst}
-use Rattle.std.specs.Prelude.{◌==◌, if◌then◌else◌}
+use Rattle.std.specs.Prelude.{if◌then◌else◌}
 use Rattle.std.proofs.lemmas.Bool.Decides.{nat_tests}
 use Rattle.model.specs.declared.event.Event.{Event}
 use Rattle.model.specs.Application.{Application}
@@ -17,7 +17,7 @@ use Rattle.model.proofs.Sorting.{by_test}
 use Rattle.soundness.proofs.Begun.{served_between, injected_between, none_pending_between}
 use Rattle.soundness.proofs.Coming.{comes-serve, comes-inject}
 use Rattle.soundness.proofs.Settled.{unlike, when_held}
-use Rattle.soundness.proofs.Passing.{held-told}
+use Rattle.soundness.proofs.Ticking.{held-told}
 use Rattle.soundness.proofs.Stepped.{told}
 use Rattle.clock.specs.Timeline.{Timeline}
 use Rattle.clock.specs.StandsFor as clock
@@ -27,7 +27,7 @@ use Rattle.machine.specs.Can.{StandsForSome}
 use Rattle.machine.specs.Sources.{Sources, is_pending}
 use Rattle.machine.specs.StandsFor.{StandsFor, StandsBefore, Stands, At, AtAny, DoesAny, MovesAny}
 use Rattle.machine.specs.StandsFor.Stands.{Placed, Placing}
-use Rattle.machine.proofs.Either.{sections_are, steps_are}
+use Rattle.machine.proofs.Either.{steps_are}
 use Rattle.machine.proofs.Renewed.{renewed}
 use Rattle.ops.specs.Can.{HasObjects}
 use Rattle.ops.proofs.Before.{before_with_ticks}

@@ -44,15 +44,16 @@ use Rattle.model.specs.Handlers.{interrupt, tick_interrupt, idle, ticks_ahead}
 use Rattle.model.specs.Step.{judge, act, act_unless, misuse, act_if, act_current, before_step}
 use Rattle.model.proofs.Sorting.{by_test}
 use Rattle.soundness.proofs.Judging.{by_judgement}
-use Rattle.soundness.proofs.Passing.{either_way, lasts-final_bits}
+use Rattle.soundness.proofs.Ticking.{either_way, lasts-final_bits}
 use Rattle.model.specs.declared.event.Event.{Event}
 use Rattle.machine.specs.declared.machine.Machine.{Machine}
 use Rattle.machine.specs.StandsFor.{Stands, AtAny}
 use Rattle.machine.proofs.Either.{steps_are}
-use Rattle.soundness.proofs.Frames.{keeps-choose, keeps-yield_now, keeps-preempt, keeps-slice, keeps-settle, keeps-unless_held}
-use Rattle.soundness.proofs.Frames.{keeps-all_ready, keeps-wake_due, keeps-go_to, keeps-answer, keeps-use_up, keeps-delay}
-use Rattle.soundness.proofs.Frames.{keeps-delay_until, keeps-open_loop, keeps-close_turn, keeps-branch, keeps-skip_branch}
-use Rattle.soundness.proofs.Frames.{keeps-leave_loop, keeps-stamp, keeps-since, keeps-set_deadline, keeps-inherit, keeps-give_mutex}
+use Rattle.soundness.proofs.Keeping.{keeps-choose, keeps-yield_now, keeps-preempt, keeps-slice, keeps-settle, keeps-unless_held}
+use Rattle.soundness.proofs.Keeping.{keeps-all_ready, keeps-wake_due, keeps-go_to, keeps-answer, keeps-use_up, keeps-delay}
+use Rattle.soundness.proofs.Keeping.{keeps-delay_until, keeps-open_loop, keeps-close_turn, keeps-branch, keeps-skip_branch}
+use Rattle.soundness.proofs.Keeping.{keeps-leave_loop, keeps-stamp, keeps-since, keeps-set_deadline, keeps-inherit}
+use Rattle.soundness.proofs.Keeping.{keeps-give_mutex}
 use Rattle.soundness.proofs.Frames.{keeps-try, keeps-do_now, keeps-set, keeps-clear, keeps-answer_bits, keeps-call_suspend}
 use Rattle.soundness.proofs.Frames.{keeps-call_resume, keeps-take_command, keeps-obeyed, keeps-clear_by_daemon, keeps-interrupt}
 use Rattle.soundness.proofs.Coming.{comes-before_step}

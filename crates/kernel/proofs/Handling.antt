@@ -5,7 +5,7 @@ use Rattle.model.specs.declared.value.ValueOp.{ValueOp}
 use Rattle.model.specs.declared.op.IsrOp.TheVariants.{Value}
 use Rattle.model.specs.Values.{answer_of, number_of, with_number}
 use Rattle.model.specs.Ops.{store}
-use Rattle.soundness.proofs.Handled.{fits-number}
+use Rattle.soundness.proofs.Sparing.{fits-number}
 use Rattle.std.proofs.lemmas.Bool.{leb-true}
 use Rattle.std.proofs.Common.{◌≡◌, ◌<◌, ◌≤◌, ◌+◌, ◌&&◌, leb, ℕ, zero, suc, List, [], ◌∷◌, ◌++◌, length, map, get_or, take, drop}
 use Rattle.std.proofs.Common.{false, true, Option, None, ap, refl, sym, subst, ◌-◌, ◌∙◌, arith, Some}
@@ -43,7 +43,7 @@ use Rattle.machine.specs.StandsFor.{Stands, At, AtAny, Does, DoesAny, Moves, Mov
 use Rattle.machine.proofs.Parts.{rest_again}
 use Rattle.machine.proofs.Either.{any, either, steps_are}
 use Rattle.machine.proofs.Renewed.{renewed}
-use Rattle.soundness.proofs.Handled.{and_left, and_right, commands_fit}
+use Rattle.soundness.proofs.Sparing.{and_left, and_right, commands_fit}
 use Rattle.ops.specs.Can.{HasIsrObject, HasObjects}
 use Rattle.ops.proofs.Calling.{leaves_both, leaves_same}
 use Rattle.machine.specs.Can.{Leaves, StandsForSome}

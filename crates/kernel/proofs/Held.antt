@@ -5,17 +5,15 @@ use Rattle.model.specs.declared.source.SourceOp.{SourceOp}
 use Rattle.model.specs.declared.value.Value as value
 use Rattle.model.specs.declared.op.Op.TheVariants.{Value}
 use Rattle.model.specs.declared.value.ValueOp.{ValueOp}
-use Rattle.std.proofs.Common.{◌≡◌, ◌≢◌, ◌<◌, ◌≤◌, ◌+◌, ℕ, zero, suc, true, false, List, Option, Some, None, refl, sym, subst, ◌∙◌}
-use Rattle.std.proofs.Common.{arith, ltb-false, ◌&&◌}
-use Rattle.std.proofs.lemmas.Bool.{lt-ltb, ltb-true}
-use Rattle.std.specs.Prelude.{Bool, if◌then◌else◌}
-use Rattle.std.specs.Option.{option_or}
-use Rattle.model.proofs.Sorting.{by_test}
+use Rattle.std.proofs.Common.{◌≡◌, ◌≢◌, ◌<◌, ◌≤◌, ℕ, zero, suc, true, false, List, Option, Some, None, refl, ◌∙◌}
+use Rattle.std.proofs.Common.{arith, ◌&&◌}
+use Rattle.std.proofs.lemmas.Bool.{lt-ltb}
+use Rattle.std.specs.Prelude.{Bool}
 use Rattle.model.specs.declared.event.Event.{Event}
 use Rattle.model.specs.declared.answer.AnswerCondition.{AnswerCondition}
 use Rattle.model.specs.declared.event.End.TheVariants as ending
 use Rattle.model.specs.declared.event.Misuse.{Misuse}
-use Rattle.model.specs.declared.event.Misuse.TheVariants.{WhileSuspended, NotSuspended, WhileCritical, NotCritical}
+use Rattle.model.specs.declared.event.Misuse.TheVariants.{NotSuspended, WhileCritical, NotCritical}
 use Rattle.model.specs.declared.notification.NotificationClear.{NotificationClear}
 use Rattle.model.specs.declared.op.Op.{Op}
 use Rattle.model.specs.declared.op.Op.TheVariants.{Work, Delay, DelayUntil, Yield, Time, Mark, Expect, Repeat, End as EndLoop, If}
@@ -25,19 +23,12 @@ use Rattle.model.specs.declared.op.Op.TheVariants.{AwaitNotification, ClearNotif
 use Rattle.model.specs.declared.op.Op.TheVariants.{SuspendAll, ResumeAll, EnterCritical, ExitCritical, NextCommand, Obey}
 use Rattle.model.specs.Application.{Application}
 use Rattle.model.specs.State.{State, status_at, progress_at}
-use Rattle.model.specs.Switching.{is_critical, is_held, is_held_by_task, is_scheduler_suspended, holds_ticks, slice}
-use Rattle.model.specs.Time.{increment_tick}
-use Rattle.model.specs.Handlers.{interrupt, tick_interrupt}
+use Rattle.model.specs.Switching.{is_critical, is_held, is_held_by_task, is_scheduler_suspended, holds_ticks}
 use Rattle.model.specs.Step.{act_by_value, act_unless, end_misuse, is_barred, is_ended, own_misuse, judge, may_switch, misuse}
 use Rattle.model.specs.Step.{misused}
-use Rattle.soundness.proofs.Settled.{when_held, neither, ticks_held_by_task, unlike}
-use Rattle.soundness.proofs.Judging.{misuse_calm, not_barred, switches_not, takes_hold}
+use Rattle.soundness.proofs.Settled.{neither, ticks_held_by_task}
+use Rattle.soundness.proofs.Judging.{misuse_calm, switches_not, takes_hold}
 use Rattle.sched.specs.StandsFor as sched
-use Rattle.sched.specs.StandsFor.{depth_of, task_holds_of}
-use Rattle.sched.specs.Schedule.{Schedule}
-use Rattle.sched.proofs.Standing as on_sched
-use Rattle.clock.specs.StandsFor as clock
-use Rattle.clock.specs.Timeline.{Timeline}
 use Rattle.machine.specs.declared.machine.Machine.{Machine}
 use Rattle.machine.specs.Logged.{Logged}
 use Rattle.machine.specs.Can.{Agrees}
@@ -45,7 +36,7 @@ use Rattle.machine.specs.StandsFor.{At, Does, Moves, Stands}
 use Rattle.machine.specs.StandsFor.Stands.{Placed}
 use Rattle.machine.proofs.Acting.{stopped_at}
 use Rattle.machine.proofs.Either.{sections_are, suspensions_are}
-use Rattle.kernel.proofs.Bounds.{holds_by_some}
+use Rattle.kernel.proofs.Holds.{holds_by_some}
 
 -- Tasks hold the scheduler more often than by critical sections, so a `suspend_all` is in force, and ticks are held.
 pub suspended_by : (k : Machine) (s : State) → Stands k s → k.sections < k.sched.suspensions → holds_ticks s ≡ true

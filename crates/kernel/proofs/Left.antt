@@ -25,6 +25,7 @@ use Rattle.clock.specs.StandsFor as clock
 use Rattle.clock.specs.StandsFor.{tasks_at}
 use Rattle.clock.specs.Timeline.{Timeline, is_asleep}
 use Rattle.clock.proofs.Standing as on_clock
+use Rattle.clock.proofs.Sleepers as on_sleepers
 use Rattle.objects.specs.WaitersStand.{Decider}
 use Rattle.objects.specs.Objects as objects
 use Rattle.groups.specs.StandsFor.{event_wait}
@@ -33,7 +34,8 @@ use Rattle.machine.specs.StandsFor.{StandsFor, StandsBefore, Stands, decider}
 use Rattle.machine.specs.StandsFor.Stands.{Placed, Placing}
 use Rattle.ops.proofs.Before.{ready_beside, stands_there}
 use Rattle.kernel.specs.Left.{IsAnyLeft}
-use Rattle.kernel.proofs.Ending.{not_all_but, not_passed, or_false_left}
+use Rattle.kernel.proofs.Ending.{not_passed}
+use Rattle.kernel.proofs.Ended.{not_all_but, or_false_left}
 use Rattle.std.proofs.lemmas.Bool.{ltb-true, ltb-false}
 
 -- ---- by the status
@@ -125,7 +127,7 @@ module _ (task : ℕ) (list : WaitList) (k : Machine) (s : State) (b : StandsBef
     by_deadline (Some w) c =
         let new : Timeline = record k.clock { delayed_list = insert_sorted (task, w) k.clock.delayed_list } in
         sym (beside_inserted task i w k.clock.delayed_list ne)
-        ∙ on_clock.asleep_same new s i (on_clock.stands_placed k.clock new s task w refl refl refl refl c.awake c)
+        ∙ on_clock.asleep_same new s i (on_sleepers.stands_placed k.clock new s task w refl refl refl refl c.awake c)
 
 -- ---- whether or not a task is still to be placed
 

@@ -1,6 +1,8 @@
 pub mod Acted
+pub mod Holds
 pub mod Bounds
 pub mod Coming
+pub mod Ended
 pub mod Ending
 pub mod Left
 pub mod Running

@@ -1,8 +1,8 @@
 -- Handlers that are raised: when none comes, and what then doesn't happen.
-use Rattle.std.proofs.Common.{◌≡◌, ◌≢◌, ◌<◌, ◌≤◌, ◌+◌, ◌∙◌, ℕ, zero, suc, Bool, true, false, List, [], ◌∷◌, ◌++◌, get_or, map}
+use Rattle.std.proofs.Common.{◌≡◌, ◌≢◌, ◌<◌, ◌≤◌, ◌∙◌, ℕ, zero, suc, Bool, true, false, List, [], ◌∷◌, get_or, map}
 use Rattle.std.proofs.Common.{Option, Some, None, append-nil, eqb, ap, arith, refl, sym, subst}
 use Rattle.std.specs.List.{AllByRecursion, filter, list_any, range_with_len}
-use Rattle.std.specs.Option.{is_some, option_eq, option_map}
+use Rattle.std.specs.Option.{is_some, option_map}
 use Rattle.std.specs.Prelude.{◌-◌, ◌||◌, filter_map, fold, length, min, nat_eq, nat_lt}
 use Rattle.model.specs.Application.{Application, Interrupt, interrupts_at}
 use Rattle.model.specs.State.{State, Source, no_source, source_at, for_each}

@@ -28,9 +28,10 @@ use Rattle.kernel.specs.Rows.{Extends, events_from}
 use Rattle.kernel.specs.Over.{is_over}
 use Rattle.machine.proofs.Either.{steps_are, elapsed_is, current_is, progress_is}
 use Rattle.soundness.proofs.Reached.{reached_after, task_holds_after}
-use Rattle.kernel.proofs.Bounds.{below_limits}
+use Rattle.kernel.proofs.Holds.{below_limits}
 use Rattle.machine.proofs.Booting.{steps-reset}
-use Rattle.kernel.proofs.Ending.{before_tick_limit, goes_if_not_over, leb-less, not_over_if_going}
+use Rattle.kernel.proofs.Ending.{before_tick_limit, goes_if_not_over, not_over_if_going}
+use Rattle.kernel.proofs.Ended.{leb-less}
 
 leb-le : (a b : ℕ) → leb a b ≡ true → a ≤ b
 leb-le a b e = grind (arith, nat_tests)

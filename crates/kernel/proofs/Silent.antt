@@ -37,8 +37,8 @@ use Rattle.model.specs.Step.{is_ended, act_current, act_if, before_step, own_mis
 use Rattle.model.specs.Run.{are_all_ended, is_stuck}
 use Rattle.model.proofs.Sorting.{by_test}
 use Rattle.model.proofs.Tables.{each-set}
-use Rattle.soundness.proofs.Frames.{keeps-settle, keeps-unless_held}
-use Rattle.soundness.proofs.Passing.{lasts-await, lasts-begin_set}
+use Rattle.soundness.proofs.Keeping.{keeps-settle, keeps-unless_held}
+use Rattle.soundness.proofs.Ticking.{lasts-await, lasts-begin_set}
 use Rattle.soundness.proofs.Judging.{acts_calm, takes_hold}
 use Rattle.ops.specs.InCall.{IsSilent, when_entered}
 use Rattle.ops.proofs.Commanding.{same_after}
@@ -46,7 +46,8 @@ use Rattle.kernel.specs.InCall.{IsCallOn}
 use Rattle.kernel.specs.InCall.IsCallOn.{Awaits, Receives}
 use Rattle.kernel.specs.Over.{is_at_tick_limit, is_over}
 use Rattle.kernel.proofs.Unstopped.{stopped-all_ready, stopped-inherit, stopped-set, stopped-settled}
-use Rattle.kernel.proofs.Ending.{each_of, none_of, not_all_but, not_passed, runs_on, some_left}
+use Rattle.kernel.proofs.Ending.{each_of, none_of, not_passed, runs_on}
+use Rattle.kernel.proofs.Ended.{not_all_but, some_left}
 use Rattle.soundness.proofs.Pending.{begun_alone}
 
 -- Whoever wasn't Ended isn't.

@@ -24,7 +24,7 @@ use Rattle.model.specs.Run.{are_all_ended, end_of, is_interrupt_to_come, is_stuc
 use Rattle.model.proofs.Sorting.{by_test}
 use Rattle.model.proofs.Ticks.{filter-taken}
 use Rattle.soundness.proofs.Settled.{when_free}
-use Rattle.soundness.proofs.Passing.{idle_ticks}
+use Rattle.soundness.proofs.Ticking.{idle_ticks}
 use Rattle.soundness.proofs.Judging.{acts_calm}
 use Rattle.lists.specs.Lists.{Each, first_of, has_node}
 use Rattle.lists.proofs.Entries.{Each-imp}
@@ -42,7 +42,8 @@ use Rattle.kernel.specs.Quiet.{IsQuiet, Passes, WorksOn, used_by}
 use Rattle.ops.proofs.Working.{used_more}
 use Rattle.machine.proofs.Acting.{within}
 use Rattle.machine.proofs.Either.{any, current_is, elapsed_is, steps_are, stopped_is, not_by_task}
-use Rattle.kernel.proofs.Ending.{all_meant, begun, blocked_on, ends_not, is_everybody_ended, not_over_by, not_passed, on_by}
+use Rattle.kernel.proofs.Ending.{begun, ends_not, not_passed}
+use Rattle.kernel.proofs.Ended.{all_meant, blocked_on, is_everybody_ended, not_over_by, on_by}
 use Rattle.kernel.proofs.Ending.{stepped}
 use Rattle.kernel.proofs.Ending.{stuck_by}
 use Rattle.kernel.proofs.Left.{any_left}

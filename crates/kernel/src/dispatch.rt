@@ -1,6 +1,6 @@
 //! What the running task's op does.
 ghost use Rattle.std.specs.Prelude.{◌≡◌, ◌≢◌, ◌<◌, ◌≤◌, true, false};
-ghost use Rattle.model.specs.Step.{act_unless, misuse, act, act_by_value};
+ghost use Rattle.model.specs.Step.{act_unless, misuse, act};
 ghost use Rattle.machine.specs.StandsFor.{DoesAny, Does, IsPlaced};
 ghost use Rattle.kernel.specs.declared.dispatch.Following.TheVariants as following;
 ghost use Rattle.kernel.specs.InScript.{is_amid, may_stay_amid};

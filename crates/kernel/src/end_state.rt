@@ -18,7 +18,7 @@ ghost use Rattle.model.specs.declared.end_state.Situation.TheVariants as situati
 ghost use Rattle.model.specs.EndStates.{end_state_of, held_by, held_from, situation_of, situations_of};
 
 use crate::in_call::phase;
-use crate::steps::finish;
+use crate::runs::finish;
 use arrayvec::ArrayVec;
 use machine::{Machine, StepLog, Trail, place_sleeper};
 use model::{

@@ -10,7 +10,8 @@ ghost use Rattle.kernel.specs.Leads.{IsEnd, IsLed};
 use crate::kernel::Kernel;
 use crate::over::ended;
 use crate::quiet::free_until;
-use crate::steps::{go_on, step_along};
+use crate::runs::go_on;
+use crate::steps::step_to_trail;
 use machine::{StepLog, Trail};
 use model::{App, End, Injection, Limits, Memory, Meter};
 
@@ -78,7 +79,7 @@ pub fn go_far(
             return Ok(None);
         }
         if machine.sources.any_pending() {
-            step_along(machine, app, &[], limits, meter, log, trail)?;
+            step_to_trail(machine, app, &[], limits, meter, log, trail)?;
         } else {
             let stop = free_until(machine, app, until, limits);
             go_on(machine, app, injections, stop, limits, meter, log, trail)?;

@@ -8,7 +8,7 @@ ghost use Rattle.machine.specs.Can.{IsUnderWay};
 ghost use Rattle.kernel.specs.Rows.{Extends, events_from};
 
 use crate::kernel::Kernel;
-use crate::steps::go_to_step;
+use crate::runs::go_to_step;
 use machine::{StepLog, Trail};
 use model::{App, End, Limits, Memory, Meter, Point};
 

@@ -8,9 +8,9 @@ ghost use Rattle.model.specs.Handlers.{tick_interrupt};
 ghost use Rattle.model.specs.Step.{act, act_by_value, act_current, act_unless, end_misuse, is_barred, is_ended, judge, may_switch, misuse, own_misuse, step};
 ghost use Rattle.model.specs.Switching.{is_same, is_scheduler_suspended};
 ghost use Rattle.machine.specs.StandsFor.{Does, DoesAny, Moves, Stands, progress_in};
-ghost use Rattle.machine.specs.Can.{Agrees, NonePends};
+ghost use Rattle.machine.specs.Can.{NonePends};
 ghost use Rattle.machine.specs.Logged.{all_of};
-ghost use Rattle.ops.specs.Can.{Can, CanHold, HasObjects};
+ghost use Rattle.ops.specs.Can.{Can, CanHold};
 ghost use Rattle.kernel.specs.Along.{IsFree, GoesOn};
 ghost use Rattle.kernel.specs.Can.{CanStep};
 

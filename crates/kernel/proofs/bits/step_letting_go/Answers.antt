@@ -1,7 +1,8 @@
 use Rattle.std.proofs.Common.{[], ◌∙◌, arith}
 use Rattle.model.specs.Step.{step}
 use Rattle.machine.proofs.Either.{steps_are}
-use Rattle.kernel.proofs.Bounds.{below_limits, can_do}
+use Rattle.kernel.proofs.Bounds.{can_do}
+use Rattle.kernel.proofs.Holds.{below_limits}
 use Rattle.kernel.proofs.Counting.{steps_still}
 use Rattle.kernel.proofs.Ending.{begun, begun_with_none, stepped}
 use Rattle.machine.proofs.Pending.{none_by}

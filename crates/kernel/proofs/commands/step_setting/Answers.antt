@@ -1,7 +1,8 @@
 use Rattle.std.proofs.Common.{arith}
 use Rattle.model.specs.declared.op.Op.TheVariants.{Obey}
 use Rattle.machine.proofs.Either.{steps_are}
-use Rattle.kernel.proofs.Bounds.{below_limits, can_do}
+use Rattle.kernel.proofs.Bounds.{can_do}
+use Rattle.kernel.proofs.Holds.{below_limits}
 use Rattle.kernel.proofs.Setting.{can_begin, letting_set, not_over_set, stands_set, steps_set, told_set}
 use Rattle.kernel.proofs.commands.step_setting.Goals as goal
 

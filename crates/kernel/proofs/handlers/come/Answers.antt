@@ -1,8 +1,7 @@
-use Rattle.std.proofs.Common.{arith, refl, subst, sym, ◌∙◌}
+use Rattle.std.proofs.Common.{refl, subst, sym, ◌∙◌}
 use Rattle.model.specs.State.{State}
 use Rattle.model.specs.Handlers.{come, note_coming}
-use Rattle.machine.specs.declared.machine.Machine.{Machine}
-use Rattle.machine.specs.Can.{Leaves, StandsForSome}
+use Rattle.machine.specs.Can.{Leaves}
 use Rattle.ops.specs.Can.{HasObjects}
 use Rattle.kernel.proofs.handlers.come.Goals as goal
 

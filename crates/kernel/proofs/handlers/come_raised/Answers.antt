@@ -1,5 +1,5 @@
-use Rattle.std.proofs.Common.{◌≡◌, ◌∙◌, ◌+◌, ◌*◌, ℕ, false, List, ap, arith, get_or, refl, subst, sym}
-use Rattle.std.specs.List.{filter, range_with_len}
+use Rattle.std.proofs.Common.{◌≡◌, ◌∙◌, ℕ, false, List, ap, arith, get_or, subst, sym}
+use Rattle.std.specs.List.{range_with_len}
 use Rattle.model.specs.State.{for_each}
 use Rattle.model.specs.Handlers.{come}
 use Rattle.machine.specs.StandsFor.{At, AtAny}

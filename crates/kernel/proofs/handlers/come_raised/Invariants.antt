@@ -1,7 +1,6 @@
-use Rattle.std.proofs.Common.{◌*◌, ℕ, false, get_or}
-use Rattle.std.specs.Prelude.{if◌then◌else◌}
+use Rattle.std.proofs.Common.{◌*◌}
 use Rattle.std.specs.List.{range_with_len}
-use Rattle.model.specs.State.{State, for_each}
+use Rattle.model.specs.State.{for_each}
 use Rattle.model.specs.Handlers.{come}
 use Rattle.machine.specs.StandsFor.{Does, DoesAny}
 use Rattle.machine.specs.Can.{Leaves}

@@ -1,5 +1,4 @@
 use Rattle.std.proofs.Common.{refl}
-use Rattle.model.specs.State.{State}
 use Rattle.machine.specs.StandsFor.{At, AtAny}
 use Rattle.machine.specs.StandsFor.Stands.{Placed}
 use Rattle.kernel.proofs.Coming.{interrupted_held, tick_held, tick_held_any}

@@ -1,4 +1,4 @@
-use Rattle.std.proofs.Common.{◌≡◌, ◌∙◌, true, false, arith, refl, sym}
+use Rattle.std.proofs.Common.{◌∙◌, true, false, arith, refl, sym}
 use Rattle.model.specs.Handlers.{inject}
 use Rattle.kernel.proofs.handlers.inject.Goals as goal
 

@@ -1,7 +1,7 @@
-use Rattle.std.proofs.Common.{ℕ, List, ◌-◌, ◌*◌, ◌+◌, ◌≤◌, arith, subst, ◌∙◌, take_all}
+use Rattle.std.proofs.Common.{ℕ, List, ◌-◌, ◌+◌, arith, subst, ◌∙◌, take_all}
 use Rattle.model.specs.State.{for_each}
 use Rattle.model.specs.Handlers.{inject}
-use Rattle.machine.specs.StandsFor.{AtAny, DoesAny}
+use Rattle.machine.specs.StandsFor.{AtAny}
 use Rattle.kernel.proofs.Coming.{come_after_injected, come_fewer, most_room}
 use Rattle.kernel.proofs.Handling.{one_more, so_all, so_more}
 use Rattle.kernel.proofs.handlers.inject_all.Goals as goal

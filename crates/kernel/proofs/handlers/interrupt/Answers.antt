@@ -1,6 +1,6 @@
 use Rattle.std.proofs.Common.{◌≡◌, ◌∙◌, ℕ, [], List, ap, arith, refl, subst, sym}
 use Rattle.model.specs.Application.{interrupts_at}
-use Rattle.model.specs.State.{State, for_each}
+use Rattle.model.specs.State.{for_each}
 use Rattle.model.specs.Handlers.{come, interrupt}
 use Rattle.machine.specs.StandsFor.{At, AtAny}
 use Rattle.machine.specs.StandsFor.Stands.{Placed}

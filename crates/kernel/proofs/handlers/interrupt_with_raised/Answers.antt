@@ -1,12 +1,11 @@
-use Rattle.std.proofs.Common.{◌≡◌, ◌∙◌, ◌+◌, ℕ, false, List, ◌++◌, ap, arith, get_or, refl, subst, sym}
-use Rattle.std.specs.List.{filter, range_with_len}
+use Rattle.std.proofs.Common.{◌≡◌, ◌∙◌, ◌+◌, ℕ, List, ◌++◌, ap, arith, refl, subst, sym}
 use Rattle.std.proofs.lemmas.List.Sums.{fold-append}
 use Rattle.model.specs.Application.{Application, interrupts_at}
 use Rattle.model.specs.State.{State, for_each}
 use Rattle.model.specs.Handlers.{come, interrupt, none_raised_now, raised_now}
 use Rattle.machine.specs.StandsFor.{At, AtAny}
 use Rattle.machine.specs.StandsFor.Stands.{Placed}
-use Rattle.machine.specs.Can.{Leaves, StandsForSome}
+use Rattle.machine.specs.Can.{Leaves}
 use Rattle.machine.proofs.Renewed.{stood_after}
 use Rattle.ops.specs.Can.{HasObjects}
 use Rattle.ops.proofs.Calling.{leaves_both}

@@ -1,7 +1,6 @@
-use Rattle.std.proofs.Common.{◌≡◌, ◌∙◌, ◌<◌, ℕ, Some, None, ap, arith, refl, subst, sym}
+use Rattle.std.proofs.Common.{◌≡◌, ◌∙◌, ◌<◌, Some, None, ap, arith}
 use Rattle.std.proofs.lemmas.Bool.{ltb-true}
 use Rattle.std.proofs.lemmas.Option.{same_Some}
-use Rattle.model.specs.State.{State}
 use Rattle.machine.proofs.Either.{elapsed_is}
 use Rattle.kernel.proofs.Raised.{nobody_now, none_at, none_before}
 use Rattle.kernel.proofs.handlers.is_none_raised.Goals as goal

@@ -1,6 +1,5 @@
-use Rattle.std.proofs.Common.{◌≡◌, ◌≤◌, ℕ, ◌∙◌, arith, refl, sym, subst}
+use Rattle.std.proofs.Common.{◌∙◌, sym}
 use Rattle.model.specs.Handlers.{serve}
-use Rattle.kernel.specs.Can.{room_for}
 use Rattle.kernel.proofs.Coming.{come_objects, come_stands}
 use Rattle.kernel.proofs.handlers.serve.Goals as goal
 

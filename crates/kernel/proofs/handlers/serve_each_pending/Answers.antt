@@ -1,10 +1,9 @@
-use Rattle.std.proofs.Common.{◌≡◌, ◌∙◌, ◌-◌, ◌+◌, ◌*◌, ◌≤◌, ℕ, List, arith, ap, refl, subst, sym}
+use Rattle.std.proofs.Common.{◌≡◌, ◌∙◌, ◌-◌, ◌+◌, ℕ, List, arith, ap, refl, subst, sym}
 use Rattle.std.specs.List.{filter, range_with_len}
 use Rattle.model.specs.State.{for_each}
 use Rattle.model.specs.Handlers.{none_pending, pending_of, serve, serve_pending}
 use Rattle.machine.specs.Sources.{is_pending}
 use Rattle.machine.specs.StandsFor.{AtAny}
-use Rattle.kernel.specs.Can.{CanCome}
 use Rattle.kernel.proofs.Coming.{all_room, come_after_if, come_after_taken, come_fewer, one_more_room}
 use Rattle.kernel.proofs.Handling.{each_if, each_next, serve_if}
 use Rattle.kernel.proofs.handlers.serve_each_pending.Goals as goal

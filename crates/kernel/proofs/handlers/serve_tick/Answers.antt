@@ -1,5 +1,5 @@
-use Rattle.std.proofs.Common.{◌≡◌, ◌∙◌, ℕ, Bool, false, ltb, sym, ap, arith}
-use Rattle.std.proofs.lemmas.Bool.{le-ltb, ltb-false, ltb-true}
+use Rattle.std.proofs.Common.{◌≡◌, ◌∙◌, false, ltb, sym, ap, arith}
+use Rattle.std.proofs.lemmas.Bool.{le-ltb, ltb-false}
 use Rattle.model.specs.State.{State}
 use Rattle.model.specs.Switching.{is_critical}
 use Rattle.machine.specs.declared.machine.Machine.{Machine}

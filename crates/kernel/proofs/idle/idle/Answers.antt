@@ -1,7 +1,7 @@
 use Rattle.std.proofs.Common.{sym, subst, ◌∙◌}
 use Rattle.model.specs.State.{State}
 use Rattle.machine.specs.StandsFor.{At}
-use Rattle.soundness.proofs.Passing.{idle_jumps, idle_ticks}
+use Rattle.soundness.proofs.Ticking.{idle_jumps, idle_ticks}
 use Rattle.kernel.proofs.idle.idle.Goals as goal
 
 pub returns-then-tickless : goal.returns-then-tickless

@@ -1,4 +1,4 @@
-use Rattle.std.proofs.Common.{◌≡◌, ◌∙◌, ℕ, [], arith}
+use Rattle.std.proofs.Common.{◌∙◌, [], arith}
 use Rattle.machine.specs.StandsFor.Stands.{Placed}
 use Rattle.machine.proofs.Acting.{agrees_after}
 use Rattle.machine.proofs.Switches.{unheld_by, sliced_free}

@@ -1,4 +1,4 @@
-use Rattle.std.proofs.Common.{◌≡◌, ◌≤◌, ◌<◌, ◌+◌, ◌-◌, ◌++◌, ◌∙◌, ℕ, fold, max, min, ap, sym, arith, true, false, leb}
+use Rattle.std.proofs.Common.{◌≡◌, ◌≤◌, ◌+◌, ◌-◌, ◌++◌, ◌∙◌, ℕ, fold, max, min, ap, sym, arith, true, false, leb}
 use Rattle.std.proofs.Math.Nat.{max_comm}
 use Rattle.lists.proofs.Entries.{Each-imp}
 use Rattle.model.specs.Application.{Limits}

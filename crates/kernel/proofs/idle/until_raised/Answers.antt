@@ -1,4 +1,4 @@
-use Rattle.std.proofs.Common.{◌≡◌, ◌∙◌, ◌-◌, ℕ, List, Some, None, ap, fold, min, sym}
+use Rattle.std.proofs.Common.{◌∙◌, ◌-◌, ℕ, List, Some, None, ap, fold, min, sym}
 use Rattle.machine.specs.StandsFor.Stands.{Placed}
 use Rattle.kernel.proofs.Raised.{least_to_raised, none_later}
 use Rattle.kernel.proofs.idle.until_raised.Goals as goal

@@ -1,5 +1,6 @@
 use Rattle.std.proofs.Common.{arith}
-use Rattle.kernel.proofs.Bounds.{below_limits, can_do, held_in_call}
+use Rattle.kernel.proofs.Bounds.{can_do, held_in_call}
+use Rattle.kernel.proofs.Holds.{below_limits}
 use Rattle.machine.proofs.Either.{steps_are}
 use Rattle.kernel.proofs.InCall.{can_in_phase, holds_silently, not_over_after, past_silent, steps_held, still_in_call, stepped_held}
 use Rattle.kernel.proofs.InCall.{told_nothing}

@@ -4,7 +4,7 @@ use Rattle.std.specs.List.{list_all}
 use Rattle.model.specs.Application.{without_endless}
 use Rattle.model.specs.State.{Task}
 use Rattle.model.specs.Step.{is_ended}
-use Rattle.kernel.proofs.Ending.{all_awaited, all_meant}
+use Rattle.kernel.proofs.Ended.{all_awaited, all_meant}
 use Rattle.kernel.proofs.over.are_all_ended_beside.Goals as goal
 
 pub returns-then-not-has_endless : goal.returns-then-not-has_endless

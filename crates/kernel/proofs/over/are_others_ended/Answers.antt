@@ -4,7 +4,8 @@ use Rattle.std.specs.Prelude.{◌&&◌}
 use Rattle.model.specs.Application.{is_endless, without_endless}
 use Rattle.model.specs.State.{Task, status_at}
 use Rattle.model.specs.Step.{is_ended}
-use Rattle.kernel.proofs.Ending.{all_but, each_below, few_tasks, not_all_but, not_passed}
+use Rattle.kernel.proofs.Ending.{each_below, few_tasks, not_passed}
+use Rattle.kernel.proofs.Ended.{all_but, not_all_but}
 use Rattle.kernel.proofs.over.are_others_ended.Goals.{else-not-is_endless-via-then-not-is_endless+else-not-is_ended}
 use Rattle.kernel.proofs.over.are_others_ended.Goals.{else-not-is_endless-via-else-not-is_endless}
 use Rattle.kernel.proofs.over.are_others_ended.Goals as goal

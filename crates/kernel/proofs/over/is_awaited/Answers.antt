@@ -1,5 +1,6 @@
 use Rattle.std.proofs.Common.{◌∙◌, sym}
-use Rattle.kernel.proofs.Ending.{not_all_but, not_passed}
+use Rattle.kernel.proofs.Ending.{not_passed}
+use Rattle.kernel.proofs.Ended.{not_all_but}
 use Rattle.kernel.proofs.Handling.{groups_stand}
 use Rattle.kernel.proofs.Left.{bits_on, on_if_ready}
 use Rattle.kernel.proofs.over.is_awaited.Goals as goal

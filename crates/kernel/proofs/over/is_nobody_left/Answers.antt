@@ -1,5 +1,5 @@
 use Rattle.std.proofs.Common.{◌≡◌, true, false, sym, ap, ◌∙◌, not}
-use Rattle.kernel.proofs.Ending.{over_by, on_by, not_over_by}
+use Rattle.kernel.proofs.Ended.{over_by, on_by, not_over_by}
 use Rattle.kernel.proofs.over.is_nobody_left.Goals.{then-not-has_ready, else-not-has_ready}
 use Rattle.kernel.proofs.over.is_nobody_left.Goals as goal
 

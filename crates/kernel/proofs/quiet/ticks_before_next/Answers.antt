@@ -1,7 +1,7 @@
 use Rattle.std.proofs.Common.{◌≡◌, ◌<◌, ◌≤◌, ◌+◌, ◌-◌, ℕ, true, false, leb, length, get_or, sym, ap, arith}
 use Rattle.std.proofs.lemmas.Bool.{ltb-false, ltb-true}
 use Rattle.model.specs.Application.{Interrupt}
-use Rattle.kernel.proofs.Ending.{leb-no, leb-yes}
+use Rattle.kernel.proofs.Ended.{leb-no, leb-yes}
 use Rattle.kernel.proofs.Ticking.{next_is_later, none_before_next, none_between, some_at_next}
 use Rattle.kernel.proofs.quiet.ticks_before_next.Goals as goal
 

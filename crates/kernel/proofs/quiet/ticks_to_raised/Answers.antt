@@ -1,4 +1,4 @@
-use Rattle.std.proofs.Common.{◌≡◌, ◌∙◌, ◌<◌, ℕ, Some, None, arith}
+use Rattle.std.proofs.Common.{Some, None, arith}
 use Rattle.std.proofs.lemmas.Option.{same_Some}
 use Rattle.kernel.proofs.Raised.{none_before}
 use Rattle.kernel.proofs.quiet.ticks_to_raised.Goals as goal

@@ -11,7 +11,7 @@ use Rattle.kernel.specs.Along.{IsFree}
 use Rattle.kernel.specs.Leads.{IsLed, IsPast}
 use Rattle.kernel.proofs.Along.{free_of_limits}
 use Rattle.kernel.proofs.Alike.{blank_on_the_way}
-use Rattle.kernel.proofs.Bounds.{below_limits}
+use Rattle.kernel.proofs.Holds.{below_limits}
 use Rattle.kernel.proofs.Leading.{end_here, led_here, led_on, led_step, led_then, one_there, past_on, some_there, way_there}
 use Rattle.kernel.proofs.Running.{can_step, extends_on, moves_on, no_further, told_some}
 use Rattle.kernel.proofs.rests.go_far.Goals as goal
@@ -165,98 +165,98 @@ invariant_of-kernel-in_err-go_on c = λ task behind.
 
 -- ---- a step with what is pending
 
-pub step_along-requires-clause-going : goal.step_along-requires-clause-going
-step_along-requires-clause-going c =
+pub step_to_trail-requires-clause-going : goal.step_to_trail-requires-clause-going
+step_to_trail-requires-clause-going c =
     let way : IsUnderWay c.args.app.now c.args.injections.now c.args.limits.now c.steps.machine =
     c.steps.invariant.led.leads.way c.args.injections.now (record { way = c.requires.way; past = c.requires.past }) in
     can_step c.args.app.now c.well_formed-2.ensures c.args.injections.now c.args.limits.now c.well_formed-3.ensures
     c.steps.machine way (sym (c.in_default.ensures _ way.stands))
 
-pub returns-in_err-step_along-clause-way : goal.returns-in_err-step_along-clause-way
-returns-in_err-step_along-clause-way c =
+pub returns-in_err-step_to_trail-clause-way : goal.returns-in_err-step_to_trail-clause-way
+returns-in_err-step_to_trail-clause-way c =
     let led = c.steps.invariant.led in
     let is : IsPast c.args.app.now c.args.limits.now c.steps.machine c.args.injections.now =
     past_on c.args.app.now c.args.limits.now c.args.kernel.now c.steps.machine led.own led.leads
     c.args.injections.now (record { way = c.requires.way; past = c.requires.past }) in
     way_there c.args.app.now c.args.limits.now c.well_formed-2.ensures c.well_formed-3.ensures c.steps.machine
-    c.step_along.new.kernel c.in_default.ensures c.in_err-step_along.ensures.stands c.args.injections.now is
+    c.step_to_trail.new.kernel c.in_default.ensures c.in_err-step_to_trail.ensures.stands c.args.injections.now is
 
-pub returns-in_err-step_along-clause-on : goal.returns-in_err-step_along-clause-on
-returns-in_err-step_along-clause-on c =
+pub returns-in_err-step_to_trail-clause-on : goal.returns-in_err-step_to_trail-clause-on
+returns-in_err-step_to_trail-clause-on c =
     let led = c.steps.invariant.led in
     let is : IsPast c.args.app.now c.args.limits.now c.steps.machine c.args.injections.now =
     past_on c.args.app.now c.args.limits.now c.args.kernel.now c.steps.machine led.own led.leads
     c.args.injections.now (record { way = c.requires.way; past = c.requires.past }) in
     let one =
     one_there c.args.app.now c.args.limits.now c.well_formed-2.ensures c.well_formed-3.ensures c.steps.machine
-    c.step_along.new.kernel c.in_default.ensures c.in_err-step_along.ensures.stands c.args.injections.now is in
+    c.step_to_trail.new.kernel c.in_default.ensures c.in_err-step_to_trail.ensures.stands c.args.injections.now is in
     let on = led.leads.on in
     omega arith
 
-pub returns-in_err-step_along-clause-far : goal.returns-in_err-step_along-clause-far
-returns-in_err-step_along-clause-far c =
+pub returns-in_err-step_to_trail-clause-far : goal.returns-in_err-step_to_trail-clause-far
+returns-in_err-step_to_trail-clause-far c =
     let led = c.steps.invariant.led in
     let is : IsPast c.args.app.now c.args.limits.now c.steps.machine c.args.injections.now =
     past_on c.args.app.now c.args.limits.now c.args.kernel.now c.steps.machine led.own led.leads
     c.args.injections.now (record { way = c.requires.way; past = c.requires.past }) in
     let one =
     one_there c.args.app.now c.args.limits.now c.well_formed-2.ensures c.well_formed-3.ensures c.steps.machine
-    c.step_along.new.kernel c.in_default.ensures c.in_err-step_along.ensures.stands c.args.injections.now is in
+    c.step_to_trail.new.kernel c.in_default.ensures c.in_err-step_to_trail.ensures.stands c.args.injections.now is in
     let far = c.steps.invariant.far in
     let short : c.steps.machine.steps ≢ c.args.until = c.if-machine-until.false in
     omega (arith, one, far, short)
 
-pub returns-in_err-step_along-clause-meter : goal.returns-in_err-step_along-clause-meter
-returns-in_err-step_along-clause-meter c =
+pub returns-in_err-step_to_trail-clause-meter : goal.returns-in_err-step_to_trail-clause-meter
+returns-in_err-step_to_trail-clause-meter c =
     let led = c.steps.invariant.led in
     let is : IsPast c.args.app.now c.args.limits.now c.steps.machine c.args.injections.now =
     past_on c.args.app.now c.args.limits.now c.args.kernel.now c.steps.machine led.own led.leads
     c.args.injections.now (record { way = c.requires.way; past = c.requires.past }) in
     let one =
     one_there c.args.app.now c.args.limits.now c.well_formed-2.ensures c.well_formed-3.ensures c.steps.machine
-    c.step_along.new.kernel c.in_default.ensures c.in_err-step_along.ensures.stands c.args.injections.now is in
-    let e = c.in_err-step_along.ensures.meter in
+    c.step_to_trail.new.kernel c.in_default.ensures c.in_err-step_to_trail.ensures.stands c.args.injections.now is in
+    let e = c.in_err-step_to_trail.ensures.meter in
     let f = c.steps.invariant.meter in
     omega (arith, one, e, f)
 
-pub returns-in_err-step_along-clause-refused : goal.returns-in_err-step_along-clause-refused
-returns-in_err-step_along-clause-refused c =
+pub returns-in_err-step_to_trail-clause-refused : goal.returns-in_err-step_to_trail-clause-refused
+returns-in_err-step_to_trail-clause-refused c =
     let led = c.steps.invariant.led in
     let is : IsPast c.args.app.now c.args.limits.now c.steps.machine c.args.injections.now =
     past_on c.args.app.now c.args.limits.now c.args.kernel.now c.steps.machine led.own led.leads
     c.args.injections.now (record { way = c.requires.way; past = c.requires.past }) in
-    let way : IsUnderWay c.args.app.now c.args.injections.now c.args.limits.now c.step_along.new.kernel =
+    let way : IsUnderWay c.args.app.now c.args.injections.now c.args.limits.now c.step_to_trail.new.kernel =
     way_there c.args.app.now c.args.limits.now c.well_formed-2.ensures c.well_formed-3.ensures c.steps.machine
-    c.step_along.new.kernel c.in_default.ensures c.in_err-step_along.ensures.stands c.args.injections.now is in
+    c.step_to_trail.new.kernel c.in_default.ensures c.in_err-step_to_trail.ensures.stands c.args.injections.now is in
     let p = err_from_is_err_and c.from_residual.result c.from_residual.ensures.1 in
     rw p.1 (λ run is_run. (
-      no_further c.args.app.now c.args.injections.now c.args.limits.now c.step_along.new.kernel way run is_run,
-      told_some c.args.app.now c.args.injections.now c.args.limits.now c.step_along.new.kernel way run is_run
+      no_further c.args.app.now c.args.injections.now c.args.limits.now c.step_to_trail.new.kernel way run is_run,
+      told_some c.args.app.now c.args.injections.now c.args.limits.now c.step_to_trail.new.kernel way run is_run
           (some_there c.args.app.now c.args.limits.now c.well_formed-2.ensures c.well_formed-3.ensures c.steps.machine
-          c.step_along.new.kernel c.in_default.ensures c.in_err-step_along.ensures.stands c.args.injections.now is
-          c.in_err-step_along.ensures.memory),
+          c.step_to_trail.new.kernel c.in_default.ensures c.in_err-step_to_trail.ensures.stands c.args.injections.now is
+          c.in_err-step_to_trail.ensures.memory),
     ))
 
-pub returns-in_err-step_along-clause-memory : goal.returns-in_err-step_along-clause-memory
-returns-in_err-step_along-clause-memory c =
+pub returns-in_err-step_to_trail-clause-memory : goal.returns-in_err-step_to_trail-clause-memory
+returns-in_err-step_to_trail-clause-memory c =
     let led = c.steps.invariant.led in
     let is : IsPast c.args.app.now c.args.limits.now c.steps.machine c.args.injections.now =
     past_on c.args.app.now c.args.limits.now c.args.kernel.now c.steps.machine led.own led.leads
     c.args.injections.now (record { way = c.requires.way; past = c.requires.past }) in
     let p = err_from_is_err_and c.from_residual.result c.from_residual.ensures.1 in
     rw p.1 (some_there c.args.app.now c.args.limits.now c.well_formed-2.ensures c.well_formed-3.ensures c.steps.machine
-    c.step_along.new.kernel c.in_default.ensures c.in_err-step_along.ensures.stands c.args.injections.now is
-    c.in_err-step_along.ensures.memory)
+    c.step_to_trail.new.kernel c.in_default.ensures c.in_err-step_to_trail.ensures.stands c.args.injections.now is
+    c.in_err-step_to_trail.ensures.memory)
 
-pub invariant_of-kernel-in_err-step_along : goal.invariant_of-kernel-in_err-step_along
-invariant_of-kernel-in_err-step_along c = λ task behind.
+pub invariant_of-kernel-in_err-step_to_trail : goal.invariant_of-kernel-in_err-step_to_trail
+invariant_of-kernel-in_err-step_to_trail c = λ task behind.
     let led = c.steps.invariant.led in
     let is : IsPast c.args.app.now c.args.limits.now c.steps.machine c.args.injections.now =
     past_on c.args.app.now c.args.limits.now c.args.kernel.now c.steps.machine led.own led.leads
     c.args.injections.now (record { way = c.requires.way; past = c.requires.past }) in
-    blank_on_the_way c.args.app.now c.well_formed-2.ensures c.args.limits.now c.args.injections.now c.step_along.new.kernel
+    blank_on_the_way c.args.app.now c.well_formed-2.ensures c.args.limits.now c.args.injections.now c.step_to_trail.new.kernel
     (way_there c.args.app.now c.args.limits.now c.well_formed-2.ensures c.well_formed-3.ensures c.steps.machine
-    c.step_along.new.kernel c.in_default.ensures c.in_err-step_along.ensures.stands c.args.injections.now is) task
+    c.step_to_trail.new.kernel c.in_default.ensures c.in_err-step_to_trail.ensures.stands c.args.injections.now is) task
     (subst (λ (ts : List Definition). length ts ≤ task) c.tasks.ensures behind)
 
 pub steps-smaller-in-Continue-1 : goal.steps-smaller-in-Continue-1
@@ -267,7 +267,7 @@ steps-smaller-in-Continue-1 c =
     c.args.injections.now (record { way = c.requires.way; past = c.requires.past }) in
     let one =
     one_there c.args.app.now c.args.limits.now c.well_formed-2.ensures c.well_formed-3.ensures c.steps.machine
-    c.step_along.new.kernel c.in_default.ensures c.step_along.ensures.stands c.args.injections.now is in
+    c.step_to_trail.new.kernel c.in_default.ensures c.step_to_trail.ensures.stands c.args.injections.now is in
     let far = c.steps.invariant.far in
     let short : c.steps.machine.steps ≢ c.args.until = c.if-machine-until.false in
     omega (arith, one, far, short)
@@ -280,18 +280,18 @@ steps-preserved-in-Continue-1 c =
     c.args.injections.now (record { way = c.requires.way; past = c.requires.past }) in
     let one =
     one_there c.args.app.now c.args.limits.now c.well_formed-2.ensures c.well_formed-3.ensures c.steps.machine
-    c.step_along.new.kernel c.in_default.ensures c.step_along.ensures.stands c.args.injections.now is in
+    c.step_to_trail.new.kernel c.in_default.ensures c.step_to_trail.ensures.stands c.args.injections.now is in
     let far = c.steps.invariant.far in
     let short : c.steps.machine.steps ≢ c.args.until = c.if-machine-until.false in
     let before = c.steps.invariant.meter in
-    let after = c.step_along.ensures.meter in
+    let after = c.step_to_trail.ensures.meter in
     record {
       led =
-          led_then c.args.app.now c.args.limits.now c.args.kernel.now c.steps.machine c.step_along.new.kernel
-          (all_of c.args.trail.now) (all_of c.steps.trail) (all_of c.step_along.new.trail) led
+          led_then c.args.app.now c.args.limits.now c.args.kernel.now c.steps.machine c.step_to_trail.new.kernel
+          (all_of c.args.trail.now) (all_of c.steps.trail) (all_of c.step_to_trail.new.trail) led
           (led_step c.args.app.now c.args.limits.now c.well_formed-2.ensures c.well_formed-3.ensures c.steps.machine
-          c.step_along.new.kernel c.in_default.ensures c.step_along.ensures.stands (all_of c.steps.trail)
-          (all_of c.step_along.new.trail) c.in_ok-step_along.ensures.told c.args.injections.now is);
+          c.step_to_trail.new.kernel c.in_default.ensures c.step_to_trail.ensures.stands (all_of c.steps.trail)
+          (all_of c.step_to_trail.new.trail) c.in_ok-step_to_trail.ensures.told c.args.injections.now is);
       far = omega (arith, one, far, short);
       meter = omega (arith, one, before, after);
     }

@@ -1,7 +1,8 @@
 use Rattle.std.proofs.Common.{◌∙◌, arith}
 use Rattle.model.specs.Step.{step}
 use Rattle.machine.proofs.Either.{steps_are}
-use Rattle.kernel.proofs.Bounds.{below_limits, can_act_after, can_come, there_after}
+use Rattle.kernel.proofs.Bounds.{can_act_after, can_come, there_after}
+use Rattle.kernel.proofs.Holds.{below_limits}
 use Rattle.kernel.proofs.Counting.{steps_still}
 use Rattle.kernel.proofs.Ending.{begun, begun_with, stepped}
 use Rattle.kernel.proofs.steps.step_with_handlers.Goals as goal

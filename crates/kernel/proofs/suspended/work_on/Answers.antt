@@ -5,7 +5,7 @@ use Rattle.machine.proofs.Acting.{agrees_after}
 use Rattle.model.specs.State.{State}
 use Rattle.model.specs.Ops.{use_up}
 use Rattle.model.specs.Invariant.{Suspension}
-use Rattle.soundness.proofs.Frames.{keeps-use_up}
+use Rattle.soundness.proofs.Keeping.{keeps-use_up}
 use Rattle.machine.specs.StandsFor.{At}
 use Rattle.machine.specs.StandsFor.Stands.{Placed}
 use Rattle.kernel.proofs.Held.{suspended_by}
