@@ -1,5 +1,4 @@
 //! A division, a deal and a tally.
-ghost use Rattle.std.specs.Prelude.{IfOk};
 
 use crate::fault::Fault;
 use deal::{Counts, Deal, Division, Lane, Next, Tally};

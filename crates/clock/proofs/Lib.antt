@@ -1,6 +1,7 @@
 pub mod Advancing
 pub mod Quiet
 pub mod Sleeping
+pub mod Sleepers
 pub mod Standing
 pub mod Taking
 pub mod Unmoved

@@ -1,10 +1,10 @@
 -- How many ticks it is until the first sleeper wakes: the least of those of the definitions.
-use Rattle.std.proofs.Common.{◌≡◌, ◌<◌, ◌≤◌, ◌+◌, ◌-◌, inl, inr, ℕ, Bool, zero, suc, true, false, eqb, get_or, length, min, fold}
+use Rattle.std.proofs.Common.{◌≡◌, ◌≤◌, ◌+◌, ◌-◌, inl, inr, ℕ, Bool, zero, suc, true, false, eqb, get_or, min, fold}
 use Rattle.std.proofs.Common.{filter_map, List, [], ◌∷◌, Option, Some, None, refl, ap, sym, subst, ◌∙◌, arith}
-use Rattle.std.specs.Prelude.{◌==◌, ◌||◌, nat_eq}
+use Rattle.std.specs.Prelude.{◌||◌, nat_eq}
 use Rattle.std.specs.List.{AllByRecursion, cons_option, list_any}
 use Rattle.std.specs.Option.{is_some, option_eq, option_map}
-use Rattle.model.specs.State.{State, Task, Status, wake_time_of, status_at, no_task}
+use Rattle.model.specs.State.{State, Task, wake_time_of, status_at, no_task}
 use Rattle.model.specs.Handlers.{ticks_to_wake}
 use Rattle.model.specs.Run.{will_wake}
 use Rattle.model.specs.Time.{delayed_key}
@@ -14,8 +14,9 @@ use Rattle.model.proofs.Lists.{eqb-refl, eqb-same}
 use Rattle.lists.specs.Lists.{Each}
 use Rattle.clock.specs.Timeline.{Timeline, first_time, is_asleep}
 use Rattle.clock.specs.StandsFor.{StandsFor, tasks_at}
-use Rattle.clock.proofs.Standing.{among, asleep_same, due-until, node-at, tasks_at-other, tasks_at-same}
-use Rattle.std.proofs.lemmas.Bool.{cases_eq, ne_eqb}
+use Rattle.clock.proofs.Standing.{among, asleep_same, due-until, node-at}
+use Rattle.clock.proofs.Sleepers.{tasks_at-other, tasks_at-same}
+use Rattle.std.proofs.lemmas.Bool.{cases_eq}
 
 -- ---- the least of some numbers
 

@@ -12,7 +12,7 @@ use Rattle.model.proofs.Statuses.{ready_awake}
 use Rattle.model.proofs.Tables.{table-make_ready, table-set, ticket_at}
 use Rattle.clock.specs.Timeline.{Timeline}
 use Rattle.clock.specs.StandsFor.{StandsFor}
-use Rattle.clock.proofs.Standing.{SleepsAlike, asleep_none, delayed_status_key, stands_kept}
+use Rattle.clock.proofs.Sleepers.{SleepsAlike, asleep_none, delayed_status_key, stands_kept}
 
 -- a change of a task that isn't in the table is none
 with_task-past : (s : State) (i : ℕ) (u : Task) → length s.tasks ≤ i → with_task i u s ≡ s

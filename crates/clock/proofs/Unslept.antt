@@ -1,6 +1,6 @@
 -- A jump while nobody sleeps.
-use Rattle.std.proofs.Common.{◌≡◌, ℕ, ◌<◌, ◌≤◌, ◌+◌, ◌*◌, ◌^◌, List, [], ◌∷◌, ◌++◌, arith, refl, subst}
-use Rattle.lists.specs.Lists.{Each, IsSorted, entries_of}
+use Rattle.std.proofs.Common.{◌≡◌, ℕ, ◌≤◌, ◌+◌, ◌^◌, List, [], ◌∷◌, ◌++◌, arith, refl, subst}
+use Rattle.lists.specs.Lists.{entries_of}
 use Rattle.clock.specs.Timeline.{Timeline, Jumps, IsClock, count_from, delayed_list_of, timeline_of}
 
 none_counted : (base : ℕ) (xs ys : List (ℕ × ℕ)) → count_from base xs ++ ys ≡ [] → (xs ≡ []) × (ys ≡ [])

@@ -1,6 +1,6 @@
 -- The tick that is shown when a task's sleep ends.
-use Rattle.std.proofs.Common.{◌≡◌, ◌<◌, ◌+◌, ◌*◌, ◌%◌, ◌^◌, inl, inr, ℕ, Bool, true, false, List, [], ◌∷◌, ◌++◌, Option, Some, None}
-use Rattle.std.proofs.Common.{map, refl, ap, ap₂, sym, subst, ◌∙◌, arith}
+use Rattle.std.proofs.Common.{◌≡◌, ◌<◌, ◌+◌, ◌*◌, ◌^◌, inl, inr, ℕ, Bool, true, false, List, [], ◌∷◌, ◌++◌, Option, Some, None}
+use Rattle.std.proofs.Common.{map, refl, ap, sym, ◌∙◌, arith}
 use Rattle.std.specs.Prelude.{IsTrue, ◌==◌, ◌||◌}
 use Rattle.std.specs.List.{filter, list_any}
 use Rattle.std.specs.Option.{is_some, option_map}
@@ -13,9 +13,10 @@ use Rattle.model.specs.State.{State, printed, status_at, wake_time_of}
 use Rattle.lists.specs.Lists.{Each, entries_of, has_node, value_of}
 use Rattle.lists.proofs.Entries.{has_node-append, has_or_not}
 use Rattle.task_lists.specs.Tasks.{tasks_in}
-use Rattle.clock.specs.Timeline.{IsClock, Timeline, count_from, delayed_list_of, timeline_of}
+use Rattle.clock.specs.Timeline.{IsClock, Timeline, count_from, delayed_list_of}
 use Rattle.clock.specs.StandsFor.{StandsFor, tasks_at}
-use Rattle.clock.proofs.Standing.{among, asleep_same, tasks_at-other, tasks_at-same}
+use Rattle.clock.proofs.Standing.{among, asleep_same}
+use Rattle.clock.proofs.Sleepers.{tasks_at-other, tasks_at-same}
 use Rattle.clock.proofs.Nearest.{wakes_at}
 
 or-true : (b : Bool) → (b || true) ≡ true

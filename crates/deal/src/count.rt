@@ -1,7 +1,6 @@
 //! The word that counts the blocks handed out, and the tickets of its table, each of which
 //! represents a block.
-ghost use Rattle.std.specs.Prelude.{◌≡◌, ◌+◌, ◌<◌, ◌≤◌, ◌^◌, ◌∷◌, [], ◌++◌, length, ℕ};
-ghost use Rattle.deal.specs.Totals.{total, range};
+ghost use Rattle.std.specs.Prelude.{◌≡◌, ◌+◌, ◌<◌, ◌≤◌, ◌^◌, ◌∷◌, [], ◌++◌, length};
 ghost use Rattle.deal.specs.Marks.{mark, both_marks, IsShareOf, IsTicketOf, IsAmong};
 
 use atomic_table::{Badge, Join, Play, Seat, Split, Table, TableRule};

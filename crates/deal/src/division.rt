@@ -1,5 +1,5 @@
 //! How a number of points is cut into blocks.
-ghost use Rattle.std.specs.Prelude.{◌≡◌, ◌≢◌, ◌+◌, ◌/◌, ◌%◌, ◌^◌, ◌<◌, IfOk, IsTrue, ◌↔◌, MatchOption, MatchResult, length, slice_index, sum};
+ghost use Rattle.std.specs.Prelude.{◌≡◌, ◌+◌, ◌/◌, ◌%◌, ◌^◌, ◌<◌, IfOk, IsTrue, ◌↔◌, MatchOption, MatchResult, length, slice_index, sum};
 ghost use Rattle.deal.specs.Divisions.{ArePositive, AreStarts, MatchBad, even_lengths};
 ghost use Rattle.deal.specs.declared.division.BadDivision.TheVariants.{ZeroLength};
 

@@ -1,5 +1,5 @@
 //! Dealing, before any lane is handed out.
-ghost use Rattle.std.specs.Prelude.{◌≡◌, ℕ, List, ◌+◌, ◌*◌, ◌/◌, ◌<◌, ◌≤◌, ◌++◌, ◌∷◌, [], length, vec_len, IfOk};
+ghost use Rattle.std.specs.Prelude.{◌≡◌, ℕ, List, ◌+◌, ◌*◌, ◌<◌, ◌≤◌, ◌++◌, ◌∷◌, [], vec_len, IfOk};
 ghost use Rattle.crossbeam_deque.specs.Handles.{SameWorker, worker_view};
 ghost use Rattle.atomic_table.specs.Seated.{TableId};
 ghost use Rattle.deal.specs.Totals.{in_turn};

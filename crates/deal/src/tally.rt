@@ -1,6 +1,6 @@
 //! Counts that several threads add to, each by a seat of its own.
-ghost use Rattle.std.specs.Prelude.{◌≡◌, ◌+◌, ◌<◌, ◌≤◌, ◌^◌, ℕ, [], length, replicate, slice_index, IfErr, IfOk};
-ghost use Rattle.deal.specs.Parts.{IsSeatOf, both_parts, part, zeros};
+ghost use Rattle.std.specs.Prelude.{◌≡◌, ◌+◌, ◌<◌, ◌≤◌, ◌^◌, ℕ, length, replicate, slice_index, IfErr, IfOk};
+ghost use Rattle.deal.specs.Parts.{IsSeatOf, part, zeros};
 ghost use Rattle.deal.specs.Tallies.{Adds, AreCounts, AreEachOf, AreSeatsOf, AtMost, HasAll, HasTaken, IsRest, Reads, fresh_seat, sheet};
 
 use crate::words::{PartSeat, Parts, Words, add_to, merge, see};

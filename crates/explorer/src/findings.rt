@@ -1,5 +1,5 @@
 //! What is found of each end.
-ghost use Rattle.std.specs.Prelude.{◌≡◌, ◌≢◌, ◌<◌, ◌≤◌, ◌+◌, ◌^◌, OnOk, MatchOption, length};
+ghost use Rattle.std.specs.Prelude.{◌≡◌, ◌<◌, ◌+◌, ◌^◌, OnOk, MatchOption, length};
 ghost use Rattle.std.specs.List.{AllByRecursion};
 ghost use Rattle.model.specs.Placements as definitions;
 ghost use Rattle.explorer.specs.Finding.{HasEnd, HaveOthers, IsAddedAt, IsCounted};

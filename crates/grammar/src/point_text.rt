@@ -1,5 +1,5 @@
 //! Which text spells which entry of points.
-ghost use Rattle.std.specs.Prelude.{◌≡◌, ◌≢◌, ◌≤◌, [], ◌∷◌, List, ℕ, map, option_and_then, option_map, None, Some, IfSome, MatchOption};
+ghost use Rattle.std.specs.Prelude.{◌≡◌, ◌≢◌, ◌≤◌, [], List, ℕ, map, option_and_then, option_map, None, Some, IfSome, MatchOption};
 ghost use Rattle.model.specs.declared.plan.PointEntry.{PointEntry};
 ghost use Rattle.model.specs.Scripts.{last_point};
 ghost use Rattle.grammar.specs.Grammar.{number_of, words_of};

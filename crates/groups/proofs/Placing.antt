@@ -1,5 +1,5 @@
 -- A task begins to wait for bits of a group, or for a notification.
-use Rattle.std.proofs.Common.{◌≡◌, ◌≢◌, ℕ, ◌<◌, ◌+◌, inl, inr, Bool, true, false, Option, Some, None, List, [], ◌∷◌, ◌++◌, set}
+use Rattle.std.proofs.Common.{◌≡◌, ◌≢◌, ℕ, ◌<◌, ◌+◌, inl, inr, Bool, true, Option, Some, None, List, [], ◌∷◌, ◌++◌, set}
 use Rattle.std.proofs.Common.{length, refl}
 use Rattle.std.proofs.Common.{ap, sym, ◌∙◌, subst, arith, get_or}
 use Rattle.std.specs.Prelude.{◌==◌, ◌||◌, filter, IfSome}

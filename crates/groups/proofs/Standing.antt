@@ -20,7 +20,7 @@ use Rattle.lists.proofs.Entries.{apart_from_test, has_node-without_it, has_node-
 use Rattle.lists.proofs.Laws.{entries_of-without, place_of-None}
 use Rattle.groups.specs.EventGroups.{EventGroups, waiting_in, wanted_by}
 use Rattle.task_lists.specs.Tasks.{tasks_in}
-use Rattle.groups.specs.StandsFor.{IsApart, SameEventWaits, StandsFor, event_wait, list_key, ticket_in, waiters_in}
+use Rattle.groups.specs.StandsFor.{IsApart, SameEventWaits, StandsFor, event_wait, list_key, waiters_in}
 use Rattle.std.specs.Prelude.{◌==◌}
 use Rattle.std.proofs.lemmas.Option.{same_Some}
 use Rattle.groups.specs.EventGroups.{for_notifications}

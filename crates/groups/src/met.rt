@@ -1,5 +1,5 @@
 //! The tasks that a group's bits meet.
-ghost use Rattle.std.specs.Prelude.{◌≡◌, ◌<◌, [], length, slice_set};
+ghost use Rattle.std.specs.Prelude.{◌≡◌, ◌<◌, [], slice_set};
 ghost use Rattle.lists.specs.Lists.{entries_of, IsSound};
 ghost use Rattle.model.specs.State.{State};
 ghost use Rattle.model.specs.Groups.{wake_all};

@@ -25,7 +25,7 @@ use Rattle.model.specs.Waiting.{unlock_object, wait_in}
 use Rattle.model.specs.Waiting.{waiters, wake_best, wake_one}
 use Rattle.model.proofs.Sorting.{by_test}
 use Rattle.model.proofs.Tables.{each-set}
-use Rattle.soundness.proofs.Frames.{keeps-after_timeout, keeps-fulfil, keeps-set_deadline}
+use Rattle.soundness.proofs.Keeping.{keeps-after_timeout, keeps-fulfil, keeps-set_deadline}
 use Rattle.laws.proofs.Blocks.{at-go_to}
 
 module _ (i : ℕ) where

@@ -15,7 +15,7 @@ use Rattle.model.specs.Time.{due, wake_due}
 use Rattle.model.specs.Step.{is_ended, nobody_ready}
 use Rattle.model.specs.Run.{IsRun, Run, are_all_ended, end_of, state_after}
 use Rattle.model.proofs.Sorting.{by_test}
-use Rattle.soundness.proofs.Handled.{and_left, and_right}
+use Rattle.soundness.proofs.Sparing.{and_left, and_right}
 use Rattle.laws.specs.Looking.{is_by_misuse}
 use Rattle.laws.proofs.Changes.{kept_after}
 use Rattle.laws.proofs.Staying.{Stops, is_failed_check}

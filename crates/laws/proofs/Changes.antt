@@ -12,7 +12,8 @@ use Rattle.model.specs.Step.{act_current, before_step, step, nobody_ready, ready
 use Rattle.model.specs.Values.{answer_of, number_of, with_number}
 use Rattle.std.specs.List.{AllByRecursion}
 use Rattle.laws.specs.Values.{NoHandlerStores, is_store_to, isr_stores_to, stores_to}
-use Rattle.soundness.proofs.Passing.{by_value, either_way, jumped}
+use Rattle.soundness.proofs.Passing.{by_value}
+use Rattle.soundness.proofs.Ticking.{either_way, jumped}
 use Rattle.std.proofs.Common.{[], ◌-◌, ◌≡◌, ◌<◌, ◌+◌, ℕ, zero, suc, true, false, eqb, inl, inr, List, ◌∷◌, Option, Some, None}
 use Rattle.std.proofs.Common.{refl, sym, subst}
 use Rattle.std.specs.Prelude.{Bool}

@@ -53,7 +53,7 @@ use Rattle.model.specs.Groups.{final_bits, wait_bits}
 use Rattle.model.specs.Suspension.{can_suspend, can_resume, suspend, resumed, resume}
 use Rattle.model.specs.Daemon.{received, take_command, next_command, obeyed, clear_by_daemon, end_set_by_daemon, obey}
 use Rattle.model.proofs.Sorting.{by_test}
-use Rattle.soundness.proofs.Frames.{keeps-answer}
+use Rattle.soundness.proofs.Keeping.{keeps-answer}
 use Rattle.laws.specs.Notifications.{is_last_phase, takes_notification}
 use Rattle.laws.proofs.Staying.{AreLeft, Remains, Stays, StaysPending, Stops, begun_later, dated_later, expired_inherited}
 use Rattle.laws.proofs.Staying.{is_failed_check, or_false_right, pending_apart, pending_by, pending_entered, same_awake}

@@ -9,8 +9,8 @@ use Rattle.model.specs.Time.{advance, increment_tick, apply_one, apply_held}
 use Rattle.model.specs.Waiting.{let_go, end_hold}
 use Rattle.model.specs.Handlers.{can_come, come, is_raised_for, none_raised_now, interrupt, is_tick, serve, inject, tick_interrupt}
 use Rattle.soundness.proofs.Settled.{when_held, held_as_it_was}
-use Rattle.soundness.proofs.Frames.{keeps-wake_due}
-use Rattle.soundness.proofs.Passing.{applies, held-told}
+use Rattle.soundness.proofs.Keeping.{keeps-wake_due}
+use Rattle.soundness.proofs.Ticking.{applies, held-told}
 use Rattle.soundness.proofs.Going.{spares-interrupt}
 use Rattle.soundness.proofs.Ticked.{current-wake_due}
 use Rattle.model.proofs.Lists.{eqb-refl}

@@ -59,10 +59,11 @@ use Rattle.model.proofs.Lists.{HasKey, list_has}
 use Rattle.model.proofs.Chosen.{same_eq}
 use Rattle.soundness.proofs.Judging.{by_judgement}
 use Rattle.soundness.proofs.Settled.{when_held, when_free, held_as_it_was}
-use Rattle.soundness.proofs.Passing.{held-told, either_way, jumped, jump_come}
+use Rattle.soundness.proofs.Ticking.{held-told, either_way, jumped, jump_come}
 use Rattle.soundness.proofs.Bits.{stays-set}
 use Rattle.soundness.proofs.Handled.{spares-come}
-use Rattle.soundness.proofs.Frames.{Keeps, keeps_both, keeps-interrupt, keeps-wake_due}
+use Rattle.soundness.proofs.Frames.{keeps-interrupt}
+use Rattle.soundness.proofs.Keeping.{Keeps, keeps_both, keeps-wake_due}
 use Rattle.soundness.proofs.Reached.{reached_after}
 use Rattle.soundness.proofs.Begun.{reached_before_step}
 use Rattle.model.specs.Invariant.{IsState, RunsIn}

@@ -51,7 +51,7 @@ use Rattle.model.specs.Ops.{control, do_to_source}
 use Rattle.model.specs.Application.{Handler}
 use Rattle.model.specs.Switching.{preempt}
 use Rattle.model.specs.Handlers.{apart_of, can_come, come, handle, is_tick, note_coming}
-use Rattle.soundness.proofs.Frames.{keeps-settle, keeps-unless_held}
+use Rattle.soundness.proofs.Keeping.{keeps-settle, keeps-unless_held}
 use Rattle.soundness.proofs.Passing.{by_op, lasts-act, opens}
 use Rattle.laws.proofs.Sources.{changed_at, changed_twice, in_either_order, marked, marked_again, noted, noted_again, unchanged_at}
 use Rattle.laws.specs.Sections.{alone, are_critical, is_of_handler, made_pending}

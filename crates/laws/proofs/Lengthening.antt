@@ -19,8 +19,8 @@ use Rattle.model.specs.Invariant.{Suspension, suspension_of, IsNonePending}
 use Rattle.model.proofs.Sorting.{by_test}
 use Rattle.model.proofs.Lists.{eqb-apart, eqb-refl}
 use Rattle.soundness.proofs.Settled.{IsSettled, when_held, when_free, no_task_holds, unlike}
-use Rattle.soundness.proofs.Frames.{keeps-use_up}
-use Rattle.soundness.proofs.Passing.{held-told, suspension-tick}
+use Rattle.soundness.proofs.Keeping.{keeps-use_up}
+use Rattle.soundness.proofs.Ticking.{held-told, suspension-tick}
 use Rattle.soundness.proofs.Pending.{begun_alone, begun_with, none_by}
 use Rattle.soundness.proofs.Judging.{judged_calm, not_ended}
 use Rattle.soundness.proofs.Going.{spares-interrupt}

@@ -22,8 +22,9 @@ use Rattle.model.specs.Step.{nobody_ready}
 use Rattle.model.specs.Time.{increment_tick}
 use Rattle.model.proofs.Lists.{eqb-apart, eqb-refl, eqb-same}
 use Rattle.model.proofs.Sorting.{by_test}
-use Rattle.soundness.proofs.Frames.{keeps-come, pending_in}
-use Rattle.soundness.proofs.Passing.{elapsed-tick}
+use Rattle.soundness.proofs.Frames.{keeps-come}
+use Rattle.soundness.proofs.Keeping.{pending_in}
+use Rattle.soundness.proofs.Ticking.{elapsed-tick}
 use Rattle.laws.specs.Raising.{HasNoBase, IsDueNext, IsLeftAlone, IsPeriodic, IsRaisedFor, LeaveRaised, after_ticks, is_raising}
 use Rattle.laws.specs.Raising.{raises}
 use Rattle.laws.proofs.Sources.{at_start, changed, changed_at, lowered, noted, one_changed, starts_as}

@@ -13,8 +13,9 @@ use Rattle.model.specs.Switching.{slice, unless_held, holds_ticks}
 use Rattle.model.specs.Time.{advance, increment_tick, jump}
 use Rattle.model.specs.Handlers.{interrupt, tick_interrupt, idle, ticks_ahead, ticks_to_wake, ticks_to_interrupt, ticks_to_raised}
 use Rattle.model.proofs.Sorting.{by_test}
-use Rattle.soundness.proofs.Frames.{Keeps, keeps_both, keeps-interrupt, keeps-slice, keeps-unless_held, keeps-wake_due}
-use Rattle.soundness.proofs.Passing.{either_way, elapsed-tick, idle_jumps, jumped, jump_come}
+use Rattle.soundness.proofs.Frames.{keeps-interrupt}
+use Rattle.soundness.proofs.Keeping.{Keeps, keeps_both, keeps-slice, keeps-unless_held, keeps-wake_due}
+use Rattle.soundness.proofs.Ticking.{either_way, elapsed-tick, idle_jumps, jumped, jump_come}
 
 -- ---- who wakes later, and when
 

@@ -28,7 +28,7 @@ use Rattle.model.specs.declared.call.Condition.{Condition}
 use Rattle.model.specs.Groups.{want, check}
 use Rattle.model.specs.Step.{task_at_reset}
 use Rattle.model.proofs.Sorting.{by_test}
-use Rattle.soundness.proofs.Frames.{keeps-inherit}
+use Rattle.soundness.proofs.Keeping.{keeps-inherit}
 use Rattle.soundness.proofs.Inheriting.{reranks-inherit}
 use Rattle.laws.specs.Looking.{is_by_misuse}
 

@@ -13,7 +13,8 @@ use Rattle.model.specs.Step.{act_current, before_step, step, nobody_ready, ready
 use Rattle.model.specs.Values.{answer_of, number_of, with_number}
 use Rattle.std.specs.List.{AllByRecursion, filter, range_with_len}
 use Rattle.std.proofs.Common.{length}
-use Rattle.soundness.proofs.Passing.{by_value, either_way, jumped}
+use Rattle.soundness.proofs.Passing.{by_value}
+use Rattle.soundness.proofs.Ticking.{either_way, jumped}
 use Rattle.std.proofs.Common.{[], ◌-◌, ◌≡◌, ◌<◌, ◌≤◌, ◌+◌, ◌++◌, ℕ, zero, suc, true, false, eqb, List, ◌∷◌, Option}
 use Rattle.std.proofs.Common.{Some, None, map, refl, sym, subst, ap₂, ◌∙◌, arith}
 use Rattle.std.specs.Prelude.{Bool, if◌then◌else◌}

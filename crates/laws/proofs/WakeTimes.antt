@@ -16,7 +16,7 @@ use Rattle.model.specs.Step.{nobody_ready}
 use Rattle.model.specs.Run.{state_after}
 use Rattle.model.proofs.Sorting.{by_test}
 use Rattle.model.proofs.Lists.{eqb-refl, eqb-same}
-use Rattle.soundness.proofs.Frames.{keeps-all_ready}
+use Rattle.soundness.proofs.Keeping.{keeps-all_ready}
 use Rattle.laws.proofs.Sleeping.{NoneBetween}
 use Rattle.laws.proofs.Choice.{at_index, All-from_in_order}
 use Rattle.laws.proofs.Changes.{kept_after}

@@ -11,7 +11,7 @@ use Rattle.model.specs.State.{State, progress_at}
 use Rattle.model.specs.Switching.{settle, unless_held}
 use Rattle.model.specs.Ops.{use_up}
 use Rattle.model.specs.Step.{act, act_unless, misuse, act_if, act_current, before_step, step}
-use Rattle.soundness.proofs.Frames.{keeps-use_up, keeps-settle, keeps-unless_held}
+use Rattle.soundness.proofs.Keeping.{keeps-use_up, keeps-settle, keeps-unless_held}
 use Rattle.soundness.proofs.Coming.{comes-before_step, ticks_before, ticks_in}
 use Rattle.soundness.proofs.Moving.{moves-step}
 use Rattle.model.specs.Handlers.{is_tick, pending_of}
@@ -20,7 +20,8 @@ use Rattle.laws.specs.Ticks.{ticks_among}
 use Rattle.std.specs.List.{filter}
 use Rattle.std.proofs.lemmas.List.{length-append}
 use Rattle.std.proofs.lemmas.List.Elements.{filter-append}
-use Rattle.soundness.proofs.Passing.{by_op, elapsed-tick, suspends-all, resumes-all, opens, lasts-act}
+use Rattle.soundness.proofs.Passing.{by_op, suspends-all, resumes-all, opens, lasts-act}
+use Rattle.soundness.proofs.Ticking.{elapsed-tick}
 use Rattle.soundness.proofs.Judging.{judged}
 
 one-act : (app : Application) (i : ℕ) (op : Op) (s : State) → (act app i op s).elapsed ≤ s.elapsed + 1

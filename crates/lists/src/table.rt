@@ -1,5 +1,5 @@
 //! The table: its lists, and their links.
-ghost use Rattle.std.specs.Prelude.{◌≡◌, ◌≢◌, Some, ℕ, ◌+◌, ◌<◌, ◌≤◌, ◌↔◌, List, [], ◌∷◌, ◌++◌, drop, get_or, length, replicate, slice_set, slice_index_or, map, option_map, true, IsTrue, IsNone};
+ghost use Rattle.std.specs.Prelude.{◌≡◌, ◌≢◌, Some, ℕ, ◌+◌, ◌<◌, ◌≤◌, ◌↔◌, List, [], ◌∷◌, ◌++◌, drop, get_or, length, replicate, slice_set, map, option_map, true, IsTrue, IsNone};
 ghost use Rattle.std.specs.Option.{ForSome};
 ghost use Rattle.lists.specs.Links.{lists_of, links_of, ends_of, node_at, AreFree, IsRingTable, SplitsBefore, upper};
 ghost use Rattle.lists.specs.Lists.{entries_of, first_of, has_node, insert_sorted, next_of, place_of, rotated, second_of, value_of, without, IsSorted, IsSound};

@@ -21,7 +21,7 @@ use Rattle.model.proofs.Sorting.{by_test}
 use Rattle.model.proofs.Lists.{eqb-same, eqb-refl}
 use Rattle.machine.specs.declared.machine.Machine.{Machine}
 use Rattle.machine.specs.declared.arrivals.Arrival.{Arrival}
-use Rattle.machine.specs.Arrivals.{after_op, arrival_from, arrival_in, at_any_time, is_due, lowered, sooner, soonest}
+use Rattle.machine.specs.Arrivals.{after_op, arrival_in, at_any_time, is_due, lowered, sooner, soonest}
 use Rattle.machine.specs.Sources.{Sources, is_pending, source_from, source_in, source_of}
 use Rattle.machine.specs.StandsFor.{AreSources, At, AtAny, Stands, released_ticks}
 use Rattle.machine.proofs.AlikeSources.{later_same}

@@ -7,7 +7,7 @@ use Rattle.std.proofs.lemmas.List.{take_more, map-append, length-map, get_or_pas
 use Rattle.std.proofs.lemmas.Bool.{cases_lt}
 use Rattle.model.specs.declared.call.Phase.TheVariants.{Place}
 use Rattle.model.specs.declared.op.Op.{Op}
-use Rattle.model.specs.Application.{Application, Definition, Handler, Limits}
+use Rattle.model.specs.Application.{Application, Definition, Limits}
 use Rattle.model.specs.Scripts.{IsDefinition, IsWellFormed}
 use Rattle.model.specs.State.{State, Task, Progress, no_call, Ready, Ended, wake_time_of, no_task, no_progress, task_at, status_at}
 use Rattle.model.specs.State.{Source, no_source, for_each}
@@ -18,7 +18,7 @@ use Rattle.model.specs.Step.{task_at_reset, with_ops, reset, nobody_ready, ready
 use Rattle.model.proofs.Sorting.{by_test}
 use Rattle.model.proofs.Lists.{eqb-refl, eqb-same}
 use Rattle.model.proofs.Chosen.{choice_within, each-end, same_eq}
-use Rattle.soundness.proofs.Frames.{keeps-all_ready}
+use Rattle.soundness.proofs.Keeping.{keeps-all_ready}
 use Rattle.soundness.proofs.Settled.{held_by_none}
 use Rattle.task_lists.specs.Priorities.{with_priorities}
 use Rattle.sched.specs.StandsFor as sched
@@ -27,7 +27,7 @@ use Rattle.sched.specs.Schedule.{Schedule, priority_in}
 use Rattle.clock.specs.StandsFor as clock
 use Rattle.clock.specs.StandsFor.{at_time}
 use Rattle.clock.specs.Timeline.{Timeline}
-use Rattle.clock.proofs.Standing as on_clock
+use Rattle.clock.proofs.Sleepers as on_sleepers
 use Rattle.std.proofs.Math.ListN.{length-set}
 use Rattle.std.specs.Prelude.{None}
 use Rattle.model.proofs.Tables.{table-make_ready}
@@ -279,7 +279,7 @@ clock-all_ready t [] s h none l = h
 clock-all_ready t (i ∷ is) s h none l =
     let u : Task = record (task_at s i) { status = Ready s.next_ticket } in
     let next : clock.StandsFor t (make_ready i s) =
-    on_clock.stands_kept t s (make_ready i s) i u h l.0 refl refl refl
+    on_sleepers.stands_kept t s (make_ready i s) i u h l.0 refl refl refl
     (ready_alike (status_at s i) s.next_ticket (none i)) (table-make_ready s i h.table) in
     clock-all_ready t is (make_ready i s) next (awake-ready s i none) (still_within is l.1) where
       still_within : (js : List ℕ) → AllByRecursion (λ j. j < length s.tasks) js

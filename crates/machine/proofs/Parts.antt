@@ -29,11 +29,13 @@ use Rattle.sched.specs.StandsFor as sched
 use Rattle.sched.specs.Schedule.{Schedule, block}
 use Rattle.sched.specs.Schedule as schedule
 use Rattle.sched.proofs.Standing as on_sched
-use Rattle.sched.proofs.Standing.{depth_by, holds_of}
+use Rattle.sched.proofs.Choosing as on_choosing
+use Rattle.sched.proofs.Choosing.{depth_by, holds_of}
 use Rattle.clock.specs.StandsFor as clock
 use Rattle.clock.specs.Timeline.{Timeline, is_asleep}
-use Rattle.clock.proofs.Standing as on_clock
-use Rattle.clock.proofs.Standing.{SleepsAlike, asleep_same, ticks_of}
+use Rattle.clock.proofs.Sleepers as on_sleepers
+use Rattle.clock.proofs.Standing.{asleep_same}
+use Rattle.clock.proofs.Sleepers.{SleepsAlike, ticks_of}
 use Rattle.objects.specs.WaitersStand.{AtLocked}
 use Rattle.objects.specs.Objects as objects
 use Rattle.objects.specs.Objects.{Objects, SameWaits}
@@ -315,7 +317,7 @@ module _ (k : Machine) (s : State) (h : StandsFor k s) (i : ℕ) (l : i < length
       let t : Task = record (task_at s i) { status = Ready s.next_ticket } in
       let alike : SleepsAlike t.status u = ready_alike u s.next_ticket (ready_awake u on) in
       let c =
-      on_clock.stands_kept k.clock s (make_ready i s) i t h.rest.clock l
+      on_sleepers.stands_kept k.clock s (make_ready i s) i t h.rest.clock l
       refl refl refl alike (table-make_ready s i h.sched.table) in
       rest_with_clock h.rest c (omega arith) (progress-kept s.tasks i t refl) refl
       (same_ready i s (ready_free u on)) (bits_kept.same_ready i s (ready_waits_not s i on))
@@ -331,7 +333,7 @@ module _ (k : Machine) (s : State) (h : StandsFor k s) (i : ℕ) (l : i < length
       rw on (record {
         sched =
             rw blocks (on_sched.stands_blocked k.sched s new i u h.sched l refl refl refl refl
-            refl refl c.table (sym (on_sched.ready_unsuspended (status_at s i) on)));
+            refl refl c.table (sym (on_choosing.ready_unsuspended (status_at s i) on)));
         rest =
             rest_with_clock h.rest c (omega arith) (progress-kept s.tasks i u refl) refl
             (same_ticket i (Asleep wake_time) s refl (ready_free (status_at s i) on))
@@ -347,7 +349,7 @@ module _ (k : Machine) (s : State) (h : StandsFor k s) (i : ℕ) (l : i < length
       let new : State = with_task i t s in
       let table : IsTable new = table-set s i t h.sched.table (ticket_at s.next_ticket i s.tasks h.sched.table.tickets) in
       let c =
-      on_clock.stands_kept k.clock s new i t h.rest.clock l refl refl
+      on_sleepers.stands_kept k.clock s new i t h.rest.clock l refl refl
       refl (same_alike (status_at s i) (status_at s i) refl) table in
       record {
         sched = on_sched.stands_kept k.sched s new i t h.sched l refl refl refl refl refl refl table refl;
@@ -375,11 +377,11 @@ module _ (k : Machine) (s : State) (h : StandsFor k s) (i : ℕ) (l : i < length
       record (task_at s i) { progress = record p { op_index = op_index; used = 0; call = no_call }; status = Ended } in
       let new : State = with_task i t s in
       let table : IsTable new = table-set s i t h.sched.table tt in
-      let c = on_clock.stands_kept k.clock s new i t h.rest.clock l refl refl refl (ended_alike u (ready_awake u ready)) table in
+      let c = on_sleepers.stands_kept k.clock s new i t h.rest.clock l refl refl refl (ended_alike u (ready_awake u ready)) table in
       rw on (record {
         sched =
             rw blocks (on_sched.stands_blocked k.sched s new i t h.sched l refl refl
-            refl refl refl refl table (sym (on_sched.ready_unsuspended u ready)));
+            refl refl refl refl table (sym (on_choosing.ready_unsuspended u ready)));
         rest =
             rest_moved h.rest c (omega arith) refl i t l h.sched.table.few refl (λ e. absurd (cc))
             (same_free i t s refl (ready_free u ready)) (bits_kept.same_free i t s refl (ready_waits_not s i ready));

@@ -7,13 +7,12 @@ use Rattle.std.proofs.Math.ListN.{length-set}
 use Rattle.std.proofs.lemmas.Bool.{ltb-true}
 use Rattle.std.proofs.Math.ListN.{get_or-map}
 use Rattle.std.proofs.lemmas.List.{get_or_past, length-map, set_past}
-use Rattle.model.specs.declared.event.Event.{Event}
 use Rattle.model.specs.State.{State, Source, no_source, source_at}
-use Rattle.model.specs.Handlers.{pending_of, none_pending}
+use Rattle.model.specs.Handlers.{pending_of}
 use Rattle.model.specs.Invariant.{IsNonePending}
 use Rattle.model.proofs.Sorting.{by_test}
 use Rattle.model.proofs.Lists.{eqb-same, eqb-refl}
-use Rattle.soundness.proofs.Pending.{AreNonePending, not_pending, none_now}
+use Rattle.soundness.proofs.Pending.{AreNonePending, not_pending}
 use Rattle.machine.specs.declared.machine.Machine.{Machine}
 use Rattle.machine.specs.declared.arrivals.Arrival.{Arrival}
 use Rattle.machine.specs.Arrivals.{arrival_in}

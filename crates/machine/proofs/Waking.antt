@@ -17,7 +17,7 @@ use Rattle.model.proofs.Sorting.{by_test}
 use Rattle.model.proofs.Lists.{eqb-refl}
 use Rattle.model.proofs.Chosen.{each-end, list_within}
 use Rattle.model.proofs.Tables.{each-set}
-use Rattle.soundness.proofs.Frames.{keeps-all_ready}
+use Rattle.soundness.proofs.Keeping.{keeps-all_ready}
 use Rattle.soundness.proofs.Settled.{nothing_holds, ticks_free}
 use Rattle.lists.specs.Lists.{Each}
 use Rattle.sched.specs.StandsFor as sched

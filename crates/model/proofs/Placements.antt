@@ -14,12 +14,11 @@ use Rattle.model.specs.Points.{AreInOrder}
 use Rattle.model.specs.Application.{Application, Limits}
 use Rattle.model.specs.State.{State}
 use Rattle.model.specs.Step.{step}
-use Rattle.model.specs.Run.{Run, IsRun, end_of, events_after, injected, state_after}
+use Rattle.model.specs.Run.{end_of, events_after, injected, state_after}
 use Rattle.model.specs.Placements.{AreAll, AreDistinct, IsPlacement, Placed, before_this, begun, choices, ended, extensions}
 use Rattle.model.specs.Placements.{can_all_come, placed_at, possible, sequences, unless_ended}
 use Rattle.model.proofs.Sorting.{by_test}
-use Rattle.model.proofs.Injected.{none_below}
-use Rattle.model.proofs.Among.{all_after, all_among, all_append, all_before, all_filter, all_flat, all_if, all_map, all_of_both}
+use Rattle.model.proofs.Among.{all_append, all_filter, all_flat, all_if, all_map}
 use Rattle.model.proofs.Among.{all_weaker}
 use Rattle.model.proofs.Among.{among_filter, among_flat, among_map, distinct_append, distinct_filter, distinct_flat, distinct_map}
 use Rattle.model.proofs.Among.{first_is, map_flat, none_is}

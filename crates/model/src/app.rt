@@ -1,6 +1,6 @@
 //! An application: its objects, its event groups, its variables, its handlers and base interrupts, its tasks, its limits, the time at reset,
 //! and the points of its campaign.
-ghost use Rattle.std.specs.Prelude.{◌≡◌, ◌<◌, ◌≤◌, true, not, [], length, map, nat_lt, string_bytes};
+ghost use Rattle.std.specs.Prelude.{◌≡◌, ◌<◌, ◌≤◌, true, not, [], length, map, nat_lt};
 ghost use Rattle.std.specs.List.{list_any};
 ghost use Rattle.model.specs.Application as application;
 ghost use Rattle.model.specs.Application.{commands_of, interrupts_at, is_any_awaited, is_endless, op_at, op_count, ops_of, script_of};
@@ -8,86 +8,16 @@ ghost use Rattle.model.specs.Blocks.{jump_from};
 ghost use Rattle.model.specs.Handlers.{apart_of, is_tick};
 ghost use Rattle.model.specs.Words.{name_of, handler_name_of, handler_named, source_name_of, source_named, isr_op_at};
 ghost use Rattle.model.specs.Coming.{AreComing};
-ghost use Rattle.model.specs.Scripts.{IsScript, IsDefinition, IsWellFormed, most_handler_ops, most_name_bytes, most_ops, most_apart};
+ghost use Rattle.model.specs.Scripts.{IsWellFormed, most_ops};
 
+use crate::definition::{HandlerDefinition, TaskDefinition};
 use crate::ids::{HandlerId, ObjectId, TaskId};
 use crate::interrupts::{BaseInterrupts, Interrupt};
 use crate::limits::Limits;
 use crate::object::ObjectKind;
 use crate::op::{IsrOp, Op};
 use crate::plan::PointEntry;
-use crate::script::Script;
 use std::marker::Model;
-
-/// A task as the file has it: a name, a priority as FreeRTOS has them, and a script (profile).
-#[derive(Drop)]
-pub struct TaskDefinition {
-    name: String,
-    priority: u8,
-    endless: bool,
-    script: Script,
-}
-
-impl Model for TaskDefinition {
-    ghost use Rattle.std.specs.Prelude.{string_bytes};
-    ghost use Rattle.model.specs.Application.{Definition};
-
-    ghost Value = { Definition };
-
-    ghost view = { λ t. record {
-      name = string_bytes t.name;
-      priority = t.priority;
-      endless = t.endless;
-      script = t.script;
-    } };
-}
-
-impl TaskDefinition {
-    /// A task of this name (at most 16 bytes), priority (0 to 31, a larger number is a higher priority) and script. No run waits for
-    /// the end of one that is endless.
-    pub fn new(name: String, priority: u8, endless: bool, script: Script) -> Self
-        requires name { length (string_bytes name) ≤ 16 }
-        requires priority { priority < 32 }
-        requires script { IsScript script }
-        ensures value { result ≡ record { name = string_bytes name; priority = priority; endless = endless; script = script } }
-        ensures formed { IsDefinition result }
-    {
-        TaskDefinition {
-            name,
-            priority,
-            endless,
-            script,
-        }
-    }
-
-    /// The name.
-    pub fn name(&self) -> &str
-        ensures { result.now ≡ self.now.name }
-    {
-        self.name.as_str()
-    }
-
-    /// The priority, 0 to 31.
-    pub fn priority(&self) -> u8
-        ensures { result ≡ self.now.priority }
-    {
-        self.priority
-    }
-
-    /// Whether no run waits for its end.
-    pub fn is_endless(&self) -> bool
-        ensures { result ≡ self.now.endless }
-    {
-        self.endless
-    }
-
-    /// The ops of the script.
-    pub fn ops(&self) -> &[Op]
-        ensures { result.now ≡ self.now.script }
-    {
-        self.script.ops()
-    }
-}
 
 // Whether some task is endless.
 fn is_any_endless(tasks: &[TaskDefinition]) -> bool
@@ -123,92 +53,6 @@ fn first_awaited(tasks: &[TaskDefinition]) -> TaskId {
         }
     }
     TaskId { number: 0 }
-}
-
-/// An interrupt handler as the file has it: a name, and ops (profile).
-#[derive(Drop)]
-pub struct HandlerDefinition {
-    name: String,
-    ops: Vec<IsrOp>,
-    armed: bool,
-    apart: u32,
-}
-
-impl Model for HandlerDefinition {
-    ghost use Rattle.std.specs.Prelude.{string_bytes};
-    ghost use Rattle.model.specs.Application.{Handler};
-
-    ghost Value = { Handler };
-
-    ghost view = { λ h. record {
-      name = string_bytes h.name;
-      ops = h.ops.items;
-      armed = h.armed;
-      apart = h.apart;
-    } };
-}
-
-impl HandlerDefinition {
-    /// The most ops of a handler (profile).
-    pub const MOST_OPS: usize = 16;
-
-    /// The most ticks that a handler may come after its last coming at least (profile).
-    pub const MOST_APART: u32 = 1_000_000;
-
-    /// A handler of this name (at most 16 bytes) and these ops (at most 16). It is armed at reset, and can come at any time.
-    pub fn new(name: String, ops: Vec<IsrOp>) -> Self
-        requires name { length (string_bytes name) ≤ most_name_bytes }
-        requires few { length ops.items ≤ most_handler_ops }
-        ensures { result ≡ record { name = string_bytes name; ops = ops.items; armed = true; apart = 0 } }
-    {
-        HandlerDefinition {
-            name,
-            ops,
-            armed: true,
-            apart: 0,
-        }
-    }
-
-    /// The same handler, but armed at reset or not, and so many elapsed ticks from its last coming at least (at most 1,000,000).
-    pub fn arriving(self, armed: bool, apart: u32) -> Self
-        requires near { apart ≤ most_apart }
-        ensures { result ≡ record self { armed = armed; apart = apart } }
-    {
-        HandlerDefinition {
-            name: self.name,
-            ops: self.ops,
-            armed,
-            apart,
-        }
-    }
-
-    /// Whether it is armed at reset.
-    pub fn armed(&self) -> bool
-        ensures { result ≡ self.now.armed }
-    {
-        self.armed
-    }
-
-    /// How many elapsed ticks it comes after its last coming at least.
-    pub fn apart(&self) -> u32
-        ensures { result ≡ self.now.apart }
-    {
-        self.apart
-    }
-
-    /// The name.
-    pub fn name(&self) -> &str
-        ensures { result.now ≡ self.now.name }
-    {
-        self.name.as_str()
-    }
-
-    /// The ops, in order.
-    pub fn ops(&self) -> &[IsrOp]
-        ensures { result.now ≡ self.now.ops }
-    {
-        self.ops.as_slice()
-    }
 }
 
 /// An application: what a run starts from, and the points of its campaign, which no run depends on. It has 1 to 32

@@ -1,7 +1,7 @@
 //! The blocks of a script: loops, and the branches of an `if`.
-ghost use Rattle.std.specs.Prelude.{◌≡◌, ◌<◌, ◌≤◌, List, [], ◌∷◌, length, drop, true, false, not, nat_lt};
+ghost use Rattle.std.specs.Prelude.{◌≡◌, ◌<◌, List, [], ◌∷◌, length, drop, true, not, nat_lt};
 ghost use Rattle.model.specs.declared.block.Block.TheVariants as block;
-ghost use Rattle.model.specs.Blocks.{blocks_past, ending, is_if, is_innermost, is_loop, loops_in, may_stand, most_blocks};
+ghost use Rattle.model.specs.Blocks.{blocks_past, ending, is_if, is_innermost, is_loop, loops_in, may_stand};
 
 use crate::op::Op;
 use arrayvec::ArrayVec;

@@ -1,18 +1,17 @@
 -- A call that is carried out: in the definitions the same object changes in the same way.
-use Rattle.std.proofs.Common.{◌≡◌, ℕ, zero, suc, ◌+◌, ◌<◌, inl, inr, true, false, Bool, ◌&&◌, Option, Some, None, List, [], ◌∷◌}
+use Rattle.std.proofs.Common.{◌≡◌, ℕ, zero, suc, ◌+◌, ◌<◌, inl, inr, true, false, Bool, Option, Some, None, List, [], ◌∷◌}
 use Rattle.std.proofs.Common.{get_or, set, length, sym, ◌∙◌, ap, subst, refl, arith}
 use Rattle.std.specs.Prelude.{nat_lt, not}
 use Rattle.std.specs.Option.{IfSome, is_none}
 use Rattle.std.proofs.lemmas.Bool.{cases_eq, cases_lt, le-ltb, lt-ltb}
-use Rattle.std.proofs.lemmas.List.{length-set, get_or-set_same, get_or-set_other, get_or_past}
+use Rattle.std.proofs.lemmas.List.{length-set, get_or-set_same, get_or-set_other}
 use Rattle.model.specs.declared.op.Access.{Access}
-use Rattle.model.specs.declared.op.Access.TheVariants.{Send, SendFront, Overwrite, Receive, Peek, Take, Give, Lock}
 use Rattle.model.specs.State.{State, Object, no_object, object_at, with_object}
-use Rattle.model.specs.Objects.{allows, object_after}
+use Rattle.model.specs.Objects.{object_after}
 use Rattle.model.proofs.Tables.{held_after, each-set}
 use Rattle.objects.specs.Items.{object_in}
 use Rattle.objects.specs.WaitersStand.{Decider}
-use Rattle.objects.specs.Objects.{Objects, HasRoom, StandsFor}
+use Rattle.objects.specs.Objects.{Objects, StandsFor}
 
 -- the room that is left, and whether there is any
 pub some_room : (left n size : ℕ) → left + n ≡ size → nat_lt 0 left ≡ nat_lt n size

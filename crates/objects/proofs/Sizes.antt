@@ -10,7 +10,6 @@ use Rattle.model.specs.Scripts.{fits, fits_object}
 use Rattle.model.specs.State.{State, Object, object_at}
 use Rattle.model.specs.Invariant.{Hold, IsObject, IsSound}
 use Rattle.model.proofs.Lists.{eqb-same}
-use Rattle.objects.specs.Items.{object_in}
 use Rattle.objects.specs.WaitersStand.{Decider}
 use Rattle.objects.specs.Objects.{CanHold, Objects, HasRoom, StandsFor}
 

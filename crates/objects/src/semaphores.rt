@@ -1,7 +1,5 @@
 //! The counts of semaphores.
 ghost use Rattle.std.specs.Prelude.{◌≡◌, ℕ, ◌+◌, ◌-◌, ◌<◌, ◌≤◌, nat_lt, length, map, slice_index_or, slice_set, true};
-ghost use Rattle.std.specs.List.{AllByRecursion};
-ghost use Rattle.model.specs.Scripts.{IsObjectKind};
 ghost use Rattle.model.specs.State.{no_object};
 ghost use Rattle.model.specs.Step.{object_at_reset};
 ghost use Rattle.objects.specs.Places.{object_places};

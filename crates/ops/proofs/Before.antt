@@ -27,7 +27,7 @@ use Rattle.sched.specs.Schedule.{Schedule, lined_up}
 use Rattle.sched.proofs.Standing as on_sched
 use Rattle.clock.specs.StandsFor as clock
 use Rattle.clock.specs.Timeline.{Timeline}
-use Rattle.clock.proofs.Standing as on_clock
+use Rattle.clock.proofs.Sleepers as on_sleepers
 use Rattle.objects.specs.WaitingLists.{waiting_in}
 use Rattle.task_lists.specs.Tasks.{insert_by_priority}
 use Rattle.objects.specs.WaitersStand.{AtLocked, Decider, standing}
@@ -240,7 +240,7 @@ module _ (task : ℕ) (list : WaitList) (k : Machine) (s : State) (b : StandsBef
       (awake_unready (status_at s i)))
       refl refl table (awake_resumes (status_at s i)) in
       let awake =
-      on_clock.stands_before_kept k.clock s (awaken i s) task i (call_at s task).deadline
+      on_sleepers.stands_before_kept k.clock s (awaken i s) task i (call_at s task).deadline
       t b.clock l refl refl refl (awake_alike (status_at s i)) table in
       before_with b on awake there locked bits (progress-kept s.tasks i t refl) (priority-kept s.tasks i t refl task)
       (omega arith) refl refl refl

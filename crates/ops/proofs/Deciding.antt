@@ -29,6 +29,7 @@ use Rattle.sched.proofs.Standing as on_sched
 use Rattle.clock.specs.StandsFor as clock
 use Rattle.clock.specs.Timeline.{Timeline}
 use Rattle.clock.proofs.Standing as on_clock
+use Rattle.clock.proofs.Sleepers as on_sleepers
 use Rattle.objects.specs.WaitersStand.{AtLocked}
 use Rattle.objects.specs.Objects as objects
 use Rattle.objects.specs.Objects.{CountsNobody, Objects, SameWaits, locked_by}
@@ -164,7 +165,7 @@ module _ (s : State) (i : ℕ) (list : WaitList) (object : ℕ) (l : i < length 
       let one : clock.StandsBefore i (call_at s i).deadline t begun = on_clock.stands_waiting t s i list h l ready in
       let same : (call_at decided i).deadline ≡ (call_at s i).deadline = ap (λ (p : Progress). p.call.deadline) progress_decided in
       subst (λ (d : Option ℕ). clock.StandsBefore i d t decided) (sym same)
-      (on_clock.stands_before_kept t begun decided i i (call_at s i).deadline last one
+      (on_sleepers.stands_before_kept t begun decided i i (call_at s i).deadline last one
       begun_within refl refl refl (record { key = refl; wake_time = refl }) table)
 
 -- The queue is locked, and the scheduler held.
@@ -386,7 +387,7 @@ module _ (k : Machine) (log : List Event) (s : State) (i : ℕ) (list : WaitList
             progress = progress-set k.progress s.tasks i u b.progress long_then l_then;
             full = rw length-set b.full;
             clock =
-                on_clock.stands_kept t s later i u awake l_then refl refl refl
+                on_sleepers.stands_kept t s later i u awake l_then refl refl refl
                 (same_alike (status_at s i) (status_at s i) refl) table;
             objects = shown table;
             groups = on_groups.stands_same k.groups s later b.groups (bits_kept.same_task i u s refl (λ _. refl)) table;

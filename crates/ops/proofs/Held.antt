@@ -14,9 +14,9 @@ use Rattle.model.specs.Time.{increment_tick, advance, apply_one, apply_held, rel
 use Rattle.model.specs.Ops.{answer}
 use Rattle.model.specs.Suspension.{resume_scheduler, resume_all}
 use Rattle.model.specs.Invariant.{Hold, Suspension}
-use Rattle.soundness.proofs.Frames.{keeps-answer}
+use Rattle.soundness.proofs.Keeping.{keeps-answer}
 use Rattle.soundness.proofs.Settled.{no_task_holds, when_free, when_held}
-use Rattle.soundness.proofs.Passing.{applies}
+use Rattle.soundness.proofs.Ticking.{applies}
 use Rattle.soundness.proofs.Going.{current-resumed, resumed_apart}
 use Rattle.soundness.proofs.Released.{applied_apart, current-applied}
 use Rattle.sched.specs.StandsFor as sched

@@ -1,9 +1,9 @@
 -- Task notifications: what a notify, and a wait for a notification, make of the states that the kernel represents.
-use Rattle.std.proofs.Common.{◌≡◌, ◌≢◌, ◌<◌, ℕ, true, false, eqb, Bool, List, [], length, Option, Some, None, refl, ap, sym, subst}
+use Rattle.std.proofs.Common.{◌≡◌, ◌≢◌, ◌<◌, ℕ, true, false, eqb, List, [], length, Option, Some, None, refl, ap, sym, subst}
 use Rattle.std.proofs.Common.{◌∙◌}
 use Rattle.std.proofs.Common.{arith}
 use Rattle.std.specs.Prelude.{◌||◌}
-use Rattle.std.specs.Option.{is_some, option_and_then, option_eq}
+use Rattle.std.specs.Option.{option_and_then, option_eq}
 use Rattle.model.specs.declared.call.Phase.{Phase}
 use Rattle.model.specs.declared.call.Phase.TheVariants.{Start, Try, Decide, Place, Unlock, Leave}
 use Rattle.model.specs.declared.call.WaitList.{WaitList}
@@ -17,7 +17,6 @@ use Rattle.model.specs.State.{State, Status, Task, Progress, Ready, WaitingForNo
 use Rattle.model.specs.State.{status_at}
 use Rattle.model.specs.State.{call_at, notification_at, progress_at}
 use Rattle.model.specs.Ops.{answer}
-use Rattle.model.specs.Order.{Key}
 use Rattle.model.specs.Switching.{is_ready, make_ready, preempt}
 use Rattle.model.specs.Suspension.{can_resume}
 use Rattle.model.specs.Waiting.{set_deadline, wait_key}
@@ -37,8 +36,6 @@ use Rattle.clock.specs.StandsFor as clock
 use Rattle.clock.specs.Timeline.{Timeline, is_asleep}
 use Rattle.clock.proofs.Standing as on_clock
 use Rattle.objects.specs.Objects.{SameWaits}
-use Rattle.objects.specs.Objects as objects
-use Rattle.objects.specs.WaitersStand.{AtLocked}
 use Rattle.objects.proofs.Kept.{same_ready, same_ticket, stands_same}
 use Rattle.objects.proofs.Awake.{at_locked_same}
 use Rattle.groups.specs.EventGroups.{EventGroups}
@@ -50,7 +47,7 @@ use Rattle.machine.specs.Logged.{Logged}
 use Rattle.machine.specs.StandsFor.{At, AtAny, DoesAny, Moves, Stands, StandsBefore, StandsFor, decider, progress_in}
 use Rattle.machine.specs.StandsFor.Stands.{Placed, Placing}
 use Rattle.machine.proofs.Acting.{within}
-use Rattle.machine.proofs.Either.{any, either, progress_is}
+use Rattle.machine.proofs.Either.{any, progress_is}
 use Rattle.machine.proofs.Parts.{apart, progress-kept, rest_with_groups, there_if}
 use Rattle.machine.proofs.Waking.{progress-ready}
 use Rattle.ops.specs.Can.{CanDecide}

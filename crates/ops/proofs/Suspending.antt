@@ -28,7 +28,7 @@ use Rattle.sched.specs.Schedule.{Schedule}
 use Rattle.sched.proofs.Standing as on_sched
 use Rattle.clock.specs.StandsFor as clock
 use Rattle.clock.specs.Timeline.{Timeline}
-use Rattle.clock.proofs.Standing as on_clock
+use Rattle.clock.proofs.Sleepers as on_sleepers
 use Rattle.objects.specs.WaitersStand.{AtLocked}
 use Rattle.objects.specs.Objects as objects
 use Rattle.objects.specs.Objects.{Objects, SameWaits}
@@ -259,7 +259,7 @@ module _ (k : Machine) (s : State) (i : ℕ) (t : can_resume (status_at s i) ≡
       let one : resume i s ≡ new = is_resumed s i t l in
       let on_new : sched.StandsFor v new = subst (sched.StandsFor v) one on in
       let alike = ready_alike (status_at s i) s.next_ticket (ap wake_time_of (is_suspended (status_at s i) t)) in
-      let c = on_clock.stands_kept k.clock s new i (resumed_task s i) h.rest.clock l refl refl refl alike on_new.table in
+      let c = on_sleepers.stands_kept k.clock s new i (resumed_task s i) h.rest.clock l refl refl refl alike on_new.table in
       let bits = subst (groups.SameEventWaits s) one (bits_kept.same_resume i s) in
       let off : phase_resumed (call_at s i).phase ≢ Place =
       not_resumed_place (call_at s i).phase (λ e. h.rest.placed i (ap (λ (x : Progress). x.call.phase) (h.rest.progress i) ∙ e)) in
@@ -292,7 +292,7 @@ module _ (k : Machine) (s : State) (i : ℕ) (t : can_resume (status_at s i) ≡
         sched = on_new;
         clock =
             subst (λ (u : Task). clock.StandsBefore task u.progress.call.deadline k.clock new) (sym own)
-            (on_clock.stands_before_kept k.clock s new task i (call_at s task).deadline (resumed_task s i) b.clock l refl refl
+            (on_sleepers.stands_before_kept k.clock s new task i (call_at s task).deadline (resumed_task s i) b.clock l refl refl
             refl (ready_alike (status_at s i) s.next_ticket (ap wake_time_of (is_suspended (status_at s i) t))) table);
         objects =
             subst

@@ -1,5 +1,5 @@
 -- Ops that take a value: what they do to the states that the kernel represents.
-use Rattle.std.proofs.Common.{◌≡◌, ℕ, List, Option, Some, ap₂, refl, subst, sym}
+use Rattle.std.proofs.Common.{◌≡◌, ℕ, List, Option, Some, refl, subst, sym}
 use Rattle.model.specs.declared.event.End.TheVariants.{Check}
 use Rattle.model.specs.declared.ids.VariableId.{VariableId}
 use Rattle.model.specs.declared.op.Op.TheVariants.{Value}
@@ -14,7 +14,7 @@ use Rattle.model.specs.Ops.{answer, calculate, fail, store}
 use Rattle.model.specs.State.{State, Progress, progress_at}
 use Rattle.machine.specs.declared.machine.Machine.{Machine}
 use Rattle.machine.specs.StandsFor.{At, AtAny, Stands, progress_in}
-use Rattle.machine.proofs.Either.{progress_is, variables_are}
+use Rattle.machine.proofs.Either.{progress_is}
 
 -- the check that fails is the task's op
 pub failed_at : (k new : Machine) (log : List Event) (s : State) → Stands k s → (task : ℕ)

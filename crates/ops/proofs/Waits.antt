@@ -31,8 +31,8 @@ use Rattle.sched.specs.Schedule.{Schedule}
 use Rattle.sched.proofs.Standing as on_sched
 use Rattle.clock.specs.StandsFor as clock
 use Rattle.clock.specs.Timeline.{Timeline}
-use Rattle.clock.proofs.Standing as on_clock
-use Rattle.clock.proofs.Standing.{SleepsAlike}
+use Rattle.clock.proofs.Sleepers as on_sleepers
+use Rattle.clock.proofs.Sleepers.{SleepsAlike}
 use Rattle.objects.specs.WaitersStand.{AtLocked}
 use Rattle.objects.specs.Objects as objects
 use Rattle.objects.specs.Objects.{Objects}
@@ -246,7 +246,7 @@ module _ (k : Machine) (log : List Event) (s : State) (h : At k log s) (list : W
       let t : Task = record (task_at s i) { status = awake_status (status_at s i) } in
       let table : IsTable (awaken i s) = there.waiters.table in
       let c =
-      on_clock.stands_kept k.clock s (awaken i s) i t h.stands.rest.clock l refl refl refl (awake_alike (status_at s i)) table in
+      on_sleepers.stands_kept k.clock s (awaken i s) i t h.stands.rest.clock l refl refl refl (awake_alike (status_at s i)) table in
       record {
         stands = record {
           sched =

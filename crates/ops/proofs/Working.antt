@@ -18,7 +18,7 @@ use Rattle.model.specs.Time.{sleep, set_previous_wake}
 use Rattle.model.specs.Ops.{go_to, complete, answer, use_up, delay, delay_until, expect, open_loop, turn, close_turn, branch}
 use Rattle.model.specs.Ops.{skip_branch, leave_loop, stamp, since, fail}
 use Rattle.model.proofs.Sorting.{by_test}
-use Rattle.soundness.proofs.Frames.{keeps-answer, keeps-sleep}
+use Rattle.soundness.proofs.Keeping.{keeps-answer, keeps-sleep}
 use Rattle.model.specs.Ops as step
 use Rattle.machine.specs.Loops.{after_turn, is_last, next_turn}
 use Rattle.machine.specs.declared.machine.Machine.{Machine}

@@ -1,5 +1,5 @@
 //! Tasks suspended and resumed, and the scheduler suspended and resumed.
-ghost use Rattle.std.specs.Prelude.{◌≡◌, ◌<◌, ◌≤◌, ◌+◌, None};
+ghost use Rattle.std.specs.Prelude.{◌≡◌, ◌<◌, ◌≤◌, None};
 ghost use Rattle.model.specs.declared.op.Op.TheVariants as op;
 ghost use Rattle.model.specs.State.{State, status_at};
 ghost use Rattle.model.specs.Suspension as definitions;

@@ -1,5 +1,5 @@
 //! Ops that load a variable, store one, or calculate; and the values of other ops.
-ghost use Rattle.std.specs.Prelude.{◌≡◌, ◌<◌, ◌≤◌, ◌+◌, ◌&&◌, ℕ, true, Some};
+ghost use Rattle.std.specs.Prelude.{◌≡◌, ◌<◌, ◌≤◌, ◌&&◌, true, Some};
 ghost use Rattle.model.specs.declared.op.Op.TheVariants as op;
 ghost use Rattle.model.specs.declared.event.End.TheVariants.{Check};
 ghost use Rattle.model.specs.Ops.{fail};

@@ -1,5 +1,5 @@
 //! Branches and loops: scripts that go by what was answered.
-ghost use Rattle.std.specs.Prelude.{◌≡◌, ◌≤◌, length};
+ghost use Rattle.std.specs.Prelude.{◌≤◌, length};
 ghost use Rattle.model.specs.Scripts.{InRange};
 ghost use Rattle.random_apps.specs.Known.{AreKnown, IsKnown, IsKnownAnswer, IsKnownCondition, IsKnownValue};
 

@@ -1,6 +1,6 @@
 //! Which rows of a campaign's report are written, and what of them.
 ghost use Rattle.std.specs.Prelude.{◌≡◌};
-ghost use Rattle.report.specs.Views.{every_end, failing, has_end, plain, shows, shows_events};
+ghost use Rattle.report.specs.Views.{has_end, plain, shows, shows_events};
 
 use model::End;
 

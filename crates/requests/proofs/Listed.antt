@@ -3,7 +3,7 @@ use Rattle.std.proofs.Common.{◌≡◌, ◌||◌, ℕ, Bool, true, false, List,
 use Rattle.std.proofs.Common.{Option, Some, None, option_map, refl, sym, ap, ◌∙◌}
 use Rattle.std.specs.Option.{option_and_then}
 use Rattle.report.specs.declared.view.Ends.{Ends}
-use Rattle.requests.specs.Shown.{either, ends_listed, ends_named, no_end}
+use Rattle.requests.specs.Shown.{either, ends_listed, ends_named}
 
 -- ---- ends
 

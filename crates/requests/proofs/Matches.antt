@@ -2,10 +2,10 @@
 use Rattle.std.proofs.Common.{◌≡◌, ◌≢◌, ◌∙◌, ap, refl, sym, subst, codes, inl, inr, List, [], ◌∷◌, ℕ, Option, Some, None, Result}
 use Rattle.std.proofs.Common.{Ok}
 use Rattle.std.proofs.Common.{Err, option_map, IsNone}
-use Rattle.std.specs.Prelude.{Bool, true, IfSome, MatchResult}
+use Rattle.std.specs.Prelude.{true, MatchResult}
 use Rattle.std.specs.Result.{result_ok}
 use Rattle.std.specs.Str.Parse.{ParsesUnsigned}
-use Rattle.clap.specs.Words.{TriesOne, App, Row, is_simple, takes, fault_of, is_simple_and_free, Kinds, subcommand_of}
+use Rattle.clap.specs.Words.{TriesOne, App, Row, is_simple, fault_of, is_simple_and_free, Kinds, subcommand_of}
 use Rattle.clap.specs.Words.{subcommand_rows_of, first_of, one_of, HasKind, HasMatchesOf, IsAmong, kind_of}
 use Rattle.clap.specs.Kinds.{or_else}
 use Rattle.clap.specs.declared.error.Error.{Error}
@@ -20,9 +20,9 @@ use Rattle.requests.specs.declared.job.Job.{Job}
 use Rattle.requests.specs.declared.job.Job.TheVariants.{Campaign, Explore, Run, RunUnpaired}
 use Rattle.grammar.specs.Points.{RawPair}
 use Rattle.requests.specs.declared.named_point.NamedPoint.{NamedPoint}
-use Rattle.requests.specs.Asked.{pairs_in, pairs_spelled}
-use Rattle.requests.specs.Words.{Asking, Base, Half, Injects, IsRunOf, IsRunWith, IsStepOf, NamesNoRun, Nothing, asked_by}
-use Rattle.requests.specs.Words.{asking, injecting, is_given, point_faults, spelled_faults}
+use Rattle.requests.specs.Asked.{pairs_spelled}
+use Rattle.requests.specs.Words.{Asking, Half, Nothing, asked_by}
+use Rattle.requests.specs.Words.{asking, injecting, point_faults, spelled_faults}
 use Rattle.requests.specs.Words.{IsJobOf, IsNoNumber, NamesNoOptions, faults_of, number_in, number_of, rtosim_app}
 use Rattle.requests.specs.Words.{value_faults}
 

@@ -1,5 +1,5 @@
 -- The injections of a point's text.
-use Rattle.std.proofs.Common.{◌≡◌, ◌∙◌, ◌≤◌, ◌<◌, ℕ, suc, zero, Bool, true, false, cond, ltb, List, [], ◌∷◌, get_or, length, map}
+use Rattle.std.proofs.Common.{◌≡◌, ◌≤◌, ◌<◌, ℕ, suc, zero, Bool, true, false, cond, ltb, List, [], ◌∷◌, get_or, length, map}
 use Rattle.std.proofs.Common.{Option, Some, None, refl, ap, sym}
 use Rattle.std.proofs.Common.{arith, subst}
 use Rattle.std.specs.Prelude.{option_and_then, option_map}
@@ -12,7 +12,7 @@ use Rattle.std.proofs.lemmas.Str.{IsUtf8-from_ascii}
 use Rattle.grammar.specs.declared.raw_point.RawInjection.{RawInjection}
 use Rattle.grammar.specs.Grammar.{Word, number_of}
 use Rattle.grammar.specs.Names.{is_name, is_name_byte}
-use Rattle.grammar.specs.Points.{RawEntry, RawEach, RawOne, RawPair, RawSpan, after_all, all_there, falls_from, if_point, if_step}
+use Rattle.grammar.specs.Points.{RawEach, RawOne, RawPair, RawSpan, after_all, all_there, falls_from, if_point, if_step}
 use Rattle.grammar.specs.Points.{may_be_point, pair_view, raw_at, raw_each, raw_of, raw_pair, raw_pairs, span_of}
 use Rattle.model.specs.Points.{Rises}
 use Rattle.requests.specs.Asked.{is_rising}

@@ -1,6 +1,7 @@
 //! What the program is asked to do, and which words of the command line ask for it.
 #![tactic(auto)]
 
+mod arguments;
 mod at;
 mod job;
 mod most_injections;

@@ -1,7 +1,7 @@
 //! How many workers `auto` means, and which words have it.
 ghost use Rattle.std.specs.Prelude.{◌≡◌, ◌++◌, IfOk, if◌then◌else◌, [], decimal, map, option_map, string_bytes};
 ghost use Rattle.std.specs.Int.NonZero.{non_zero_usize_get};
-ghost use Rattle.requests.specs.Processors.{all_meant, meant, meant_after, word_meant, workers_for};
+ghost use Rattle.requests.specs.Processors.{meant, meant_after, word_meant, workers_for};
 
 use std::alloc::{AllocError, Global};
 use std::num::NonZeroUsize;

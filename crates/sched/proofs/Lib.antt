@@ -3,6 +3,7 @@ pub mod Deeds
 pub mod LinedUp
 pub mod OneList
 pub mod ReadyList
+pub mod Choosing
 pub mod Standing
 pub mod Suspending
 pub mod Turning

@@ -16,8 +16,10 @@ use Rattle.sched.specs.Schedule as mine
 use Rattle.sched.specs.Schedule.{IsCalm, Schedule, is_suspended, priority_in, unsuspend}
 use Rattle.sched.specs.StandsFor.{StandsFor, StandsBefore}
 use Rattle.sched.proofs.LinedUp.{IsFalling, has_node-added, lined_up-block}
-use Rattle.sched.proofs.Standing.{Adds, adds_made_ready, adds_pended, falling_ready, numbers_kept, placing_added, stands_added}
-use Rattle.sched.proofs.Standing.{stands_before_kept, stands_kept, suspended_changed, with_priorities-filter}
+use Rattle.sched.proofs.Standing.{Adds, adds_made_ready, adds_pended, falling_ready, placing_added, stands_added}
+use Rattle.sched.proofs.Choosing.{numbers_kept}
+use Rattle.sched.proofs.Standing.{stands_before_kept, stands_kept}
+use Rattle.sched.proofs.Choosing.{suspended_changed, with_priorities-filter}
 
 -- ---- suspend
 

@@ -1,10 +1,7 @@
 -- Where no check finds a fault.
-use Rattle.std.proofs.Common.{◌≡◌, ℕ, ◌+◌, Bool, true, false, List, [], ◌∷◌, Option, Some, None, refl}
-use Rattle.std.specs.List.{AllByRecursion}
+use Rattle.std.proofs.Common.{◌≡◌, Bool, true, false, List, ◌∷◌, Option, Some, None, refl}
 use Rattle.script.specs.declared.fault.Fault.{Fault}
-use Rattle.script.specs.declared.place.Place.{Place}
 use Rattle.script.specs.Faults.{first_fault, fails_if, need}
-use Rattle.script.specs.Arrays.{Elements, each_fault}
 
 -- Where none of some checks finds a fault, the first doesn't, and none of the others.
 pub none_fails : (check : Option Fault) (checks : List (Option Fault))

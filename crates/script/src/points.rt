@@ -4,9 +4,9 @@ ghost use Rattle.model.specs.declared.plan.PointEntry.TheVariants.{Each};
 ghost use Rattle.grammar.specs.Points.{RawEach, all_known, entry_from, is_formed, may_be_point, pair_view, raw_view, span_view};
 ghost use Rattle.toml.specs.View.{view, table_view};
 ghost use Rattle.script.specs.Faults.{Judges, Loads, seen};
-ghost use Rattle.script.specs.Arrays.{each_fault, elements_of};
+ghost use Rattle.script.specs.Arrays.{each_fault};
 ghost use Rattle.script.specs.Entries.{source_names, entries_view};
-ghost use Rattle.script.specs.Points.{entry_fault, entry_named, point_elements, points_fault, campaign_fault, campaign_named};
+ghost use Rattle.script.specs.Points.{entry_fault, entry_named, point_elements, campaign_fault, campaign_named};
 
 use crate::entries::NamedEntries;
 use crate::fault::{Fault, FaultKind, LoadError};

@@ -1,9 +1,9 @@
 //! Sections, whose entries are read one after the other.
-ghost use Rattle.std.specs.Prelude.{◌≡◌, ◌≤◌, ◌+◌, ◌-◌, ◌++◌, [], ◌∷◌, nat_lt, map, length, OnOk};
+ghost use Rattle.std.specs.Prelude.{◌≡◌, ◌≤◌, ◌+◌, ◌-◌, ◌++◌, [], map, length, OnOk};
 ghost use Rattle.toml.specs.Data.{as_table};
 ghost use Rattle.toml.specs.View.{view, table_view};
 ghost use Rattle.script.specs.declared.fault.FaultKind.TheVariants.{WrongKind, TooMany};
-ghost use Rattle.script.specs.Faults.{Judges, seen, at_section, fault_at, first_fault, fails_if, need};
+ghost use Rattle.script.specs.Faults.{Judges, seen, at_section, fault_at, need};
 ghost use Rattle.script.specs.Arrays.{tables, each_fault, section_fault, section_named};
 ghost use Rattle.script.specs.Sections.{data_at};
 

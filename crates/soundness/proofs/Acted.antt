@@ -8,7 +8,7 @@ use Rattle.soundness.proofs.Sound.{revalued, done_to_source}
 use Rattle.model.specs.declared.op.Op.TheVariants as op
 use Rattle.model.specs.declared.op.Op.TheVariants.{Value}
 use Rattle.model.specs.Step.{call_with_number, notify_by_number}
-use Rattle.soundness.proofs.Handled.{fits-number}
+use Rattle.soundness.proofs.Sparing.{fits-number}
 use Rattle.std.proofs.Common.{◌≡◌, ◌<◌, ◌+◌, ◌-◌, ℕ, true, length, Option, Some, None, refl, ap, ◌∙◌}
 use Rattle.model.specs.declared.op.Op.{Op}
 use Rattle.model.specs.declared.op.Op.TheVariants.{Work, Delay, DelayUntil, Yield, Time, Mark, Expect, Repeat, End, If, Else, EndIf}
@@ -25,10 +25,10 @@ use Rattle.model.specs.Step.{act}
 use Rattle.model.specs.Invariant.{Hold, InOne, course, IsSound}
 use Rattle.model.proofs.Statuses.{ready_free}
 use Rattle.soundness.proofs.InScripts.{known_at}
-use Rattle.soundness.proofs.Frames.{keeps-use_up}
+use Rattle.soundness.proofs.Keeping.{keeps-use_up}
 use Rattle.soundness.proofs.Sound.{logged, yielded, answered, used_up, expected, opened, closed, branched, skipped, loop_left}
 use Rattle.soundness.proofs.Sound.{stamped, since_stamped, plain, delayed, delayed_until}
-use Rattle.soundness.proofs.Handled.{and_left, ticked}
+use Rattle.soundness.proofs.Sparing.{and_left, ticked}
 use Rattle.soundness.proofs.Trying.{gave}
 use Rattle.soundness.proofs.Called.{done_now}
 use Rattle.soundness.proofs.Phases.{free}

@@ -1,5 +1,5 @@
 -- Interrupts that come before a step keep what is true of every state that a run comes to, and so does the step.
-use Rattle.std.proofs.Common.{◌≡◌, ◌∙◌, ℕ, Bool, true, false, List, [], ◌∷◌, length, map, slice_set, Option, Some, None, ap}
+use Rattle.std.proofs.Common.{◌≡◌, ◌∙◌, ℕ, true, false, List, [], ◌∷◌, length, map, Option, Some, None, ap}
 use Rattle.std.proofs.Common.{sym, subst}
 use Rattle.std.proofs.Common.{◌+◌, inl, inr, ltb, refl}
 use Rattle.std.proofs.Math.ListN.{length-set}
@@ -12,10 +12,10 @@ use Rattle.model.specs.State.{State, Source, source_at, for_each}
 use Rattle.model.specs.Switching.{preempt, settle, is_ready, is_held, is_critical, unless_held}
 use Rattle.model.specs.Handlers.{can_come, come, note_coming, is_tick, serve, inject, pend, pending_of, none_pending, serve_pending}
 use Rattle.model.specs.Step.{act_current, before_step, step}
-use Rattle.model.specs.Invariant.{hold_of, IsRunning, RunsIn, IsState}
+use Rattle.model.specs.Invariant.{hold_of, RunsIn, IsState}
 use Rattle.model.proofs.Sorting.{by_test}
 use Rattle.soundness.proofs.Settled.{settled-preempt, when_held, when_free, no_task_holds, unlike}
-use Rattle.soundness.proofs.Frames.{keeps-preempt}
+use Rattle.soundness.proofs.Keeping.{keeps-preempt}
 use Rattle.soundness.proofs.Coming.{comes-serve, comes-inject, comes-each}
 use Rattle.soundness.proofs.Sound.{preempted, resourced}
 use Rattle.soundness.proofs.Handled.{come_between}

@@ -28,9 +28,12 @@ use Rattle.model.proofs.Lists.{HasKey, list_has}
 use Rattle.model.proofs.Tables.{ticket_at, each-set}
 use Rattle.model.proofs.Statuses.{ready_free}
 use Rattle.soundness.proofs.InScripts.{nesting_past}
-use Rattle.soundness.proofs.Frames.{Keeps, keeps_both, keeps-set, keeps-with_call, keeps-take_ticket, keeps-set_deadline}
-use Rattle.soundness.proofs.Sound.{CanBeReady, can_still, framed, otherwise, changed, taken, kept_free, made_ready, answered}
-use Rattle.soundness.proofs.Sound.{chosen, ready_reckoned}
+use Rattle.soundness.proofs.Frames.{keeps-set}
+use Rattle.soundness.proofs.Keeping.{Keeps, keeps_both, keeps-with_call, keeps-take_ticket, keeps-set_deadline}
+use Rattle.soundness.proofs.Sound.{framed, otherwise, changed, taken, kept_free, made_ready, answered}
+use Rattle.soundness.proofs.Reckoned.{CanBeReady, can_still}
+use Rattle.soundness.proofs.Sound.{chosen}
+use Rattle.soundness.proofs.Reckoned.{ready_reckoned}
 use Rattle.soundness.proofs.Called.{went_on, dated, dated_at}
 use Rattle.soundness.proofs.Released.{applied_apart}
 use Rattle.soundness.proofs.Phases.{free, unsuspended, calm_free, in_hold, others_free, held_by_all, hold_ended}

@@ -38,7 +38,8 @@ use Rattle.model.proofs.Lists.{HasKey, eqb-same, list_has}
 use Rattle.model.proofs.Tables.{ticket_at, table-set, held_after, each-set, each-set_but}
 use Rattle.model.proofs.Statuses.{ready_free}
 use Rattle.soundness.proofs.InScripts.{nesting_past}
-use Rattle.soundness.proofs.Sound.{IsKept, changed, taken, made_ready, answered, preempted, ready_reckoned}
+use Rattle.soundness.proofs.Sound.{IsKept, changed, taken, made_ready, answered, preempted}
+use Rattle.soundness.proofs.Reckoned.{ready_reckoned}
 
 -- ---- lists of those who wait
 

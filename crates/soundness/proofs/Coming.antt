@@ -2,7 +2,7 @@
 -- there are
 -- ticks among them.
 use Rattle.std.proofs.Common.{subst, ap}
-use Rattle.std.proofs.Common.{ap, ◌≡◌, ◌≤◌, ◌+◌, ◌∙◌, ℕ, Bool, true, false, List, [], ◌∷◌, length, refl, arith}
+use Rattle.std.proofs.Common.{ap, ◌≡◌, ◌≤◌, ◌+◌, ◌∙◌, ℕ, List, [], ◌∷◌, length, refl, arith}
 use Rattle.std.specs.Prelude.{if◌then◌else◌}
 use Rattle.model.specs.Application.{Application}
 use Rattle.model.specs.State.{State, for_each}
@@ -10,11 +10,12 @@ use Rattle.model.specs.Switching.{preempt, holds_ticks, is_critical, unless_held
 use Rattle.model.specs.Handlers.{can_come, come, is_tick, serve, inject, pend, pending_of, none_pending, serve_pending}
 use Rattle.model.specs.Handlers.{tick_interrupt}
 use Rattle.model.specs.Step.{before_step}
-use Rattle.model.specs.Invariant.{hold_of, Suspension, suspension_of}
+use Rattle.model.specs.Invariant.{hold_of, Suspension}
 use Rattle.model.proofs.Sorting.{by_test}
-use Rattle.soundness.proofs.Frames.{pending_in}
-use Rattle.soundness.proofs.Frames.{Keeps, keeps_both, keeps-come, keeps-preempt, keeps-unless_held}
-use Rattle.soundness.proofs.Passing.{keeps-tick, elapsed-tick, hold-tick, suspensions-tick, sections-tick, pending-tick}
+use Rattle.soundness.proofs.Keeping.{pending_in}
+use Rattle.soundness.proofs.Frames.{keeps-come}
+use Rattle.soundness.proofs.Keeping.{Keeps, keeps_both, keeps-preempt, keeps-unless_held}
+use Rattle.soundness.proofs.Ticking.{keeps-tick, elapsed-tick, hold-tick, suspensions-tick, sections-tick, pending-tick}
 
 -- how many of these interrupts are the tick
 abbrev pub ticks_in : Application → List ℕ → ℕ

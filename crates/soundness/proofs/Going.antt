@@ -40,11 +40,13 @@ use Rattle.model.specs.declared.source.SourceOp.TheVariants.{Arm, Disarm, Raise,
 use Rattle.model.specs.Step.{act, may_switch}
 use Rattle.model.proofs.Sorting.{by_test}
 use Rattle.model.proofs.Lists.{eqb-same}
-use Rattle.soundness.proofs.Frames.{keeps-answer}
+use Rattle.soundness.proofs.Keeping.{keeps-answer}
 use Rattle.soundness.proofs.Settled.{when_held, held_as_it_was, held_by_task, ticks_held_by_task}
-use Rattle.soundness.proofs.Passing.{is_instant, held-told}
+use Rattle.soundness.proofs.Passing.{is_instant}
+use Rattle.soundness.proofs.Ticking.{held-told}
 use Rattle.soundness.proofs.Released.{applied_apart, current-applied}
-use Rattle.soundness.proofs.Handled.{Spares, spares, spares_both, spares-come, spares-none_raised_now}
+use Rattle.soundness.proofs.Handled.{spares-come, spares-none_raised_now}
+use Rattle.soundness.proofs.Sparing.{Spares, spares, spares_both}
 
 pub suspended_held : (s : State) → is_scheduler_suspended s ≡ true → is_held_by_task s ≡ true
 suspended_held s on = either (is_scheduler_suspended s) (is_critical s) on where

@@ -23,8 +23,9 @@ use Rattle.model.specs.Step.{is_ended, judge, misused, act, act_by_value, act_un
 use Rattle.model.specs.Invariant.{Suspension, suspension_of}
 use Rattle.model.proofs.Sorting.{by_test}
 use Rattle.soundness.proofs.Settled.{unlike, neither, by_section}
-use Rattle.soundness.proofs.Frames.{keeps-use_up}
-use Rattle.soundness.proofs.Passing.{Ends, ends_by, by_op, lasts-act, sections-tick, suspensions-tick}
+use Rattle.soundness.proofs.Keeping.{keeps-use_up}
+use Rattle.soundness.proofs.Passing.{by_op, lasts-act}
+use Rattle.soundness.proofs.Ticking.{Ends, ends_by, sections-tick, suspensions-tick}
 
 -- ---- a judgement
 

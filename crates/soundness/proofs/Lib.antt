@@ -1,4 +1,6 @@
+pub mod Keeping
 pub mod Frames
+pub mod Ticking
 pub mod Passing
 pub mod Released
 pub mod Judging
@@ -7,11 +9,13 @@ pub mod Moving
 pub mod InScripts
 pub mod Jumping
 pub mod Settled
+pub mod Reckoned
 pub mod Sound
 pub mod Called
 pub mod Suspending
 pub mod Inheriting
 pub mod Trying
+pub mod Sparing
 pub mod Handled
 pub mod Unlocked
 pub mod Phases

@@ -12,11 +12,13 @@ use Rattle.model.specs.Step.{judge, act_by_value, act_unless, misuse, act_if}
 use Rattle.model.specs.Step.{act_current, before_step, step, reset}
 use Rattle.model.specs.Step.{nobody_ready, ready_at_reset, with_ops}
 use Rattle.model.specs.Invariant.{Suspension, suspension_of}
-use Rattle.soundness.proofs.Frames.{pending_in}
-use Rattle.soundness.proofs.Frames.{keeps-settle, keeps-unless_held, keeps-all_ready}
+use Rattle.soundness.proofs.Keeping.{pending_in}
+use Rattle.soundness.proofs.Keeping.{keeps-settle, keeps-unless_held, keeps-all_ready}
 use Rattle.soundness.proofs.Coming.{comes-before_step, ticks_before}
-use Rattle.soundness.proofs.Passing.{elapsed-act, elapsed-idle, most-idle, sections-idle, pending-act}
-use Rattle.soundness.proofs.Passing.{pending-idle, suspensions-act, suspensions-idle, task_holds, task_holds-act, task_holds_by}
+use Rattle.soundness.proofs.Passing.{elapsed-act, pending-act}
+use Rattle.soundness.proofs.Ticking.{elapsed-idle, most-idle, sections-idle}
+use Rattle.soundness.proofs.Passing.{suspensions-act, task_holds, task_holds-act, task_holds_by}
+use Rattle.soundness.proofs.Ticking.{pending-idle, suspensions-idle}
 use Rattle.soundness.proofs.Judging.{judged}
 
 -- ---- an op, or idle

@@ -21,8 +21,9 @@ use Rattle.model.specs.Notifications.{wait_for_notification, begin_notification_
 use Rattle.model.specs.Invariant.{IsReckoned, Hold, hold_of, UntilWoken, course, IsSound, suspension_of, IsState, wait_of}
 use Rattle.model.proofs.Sorting.{by_test}
 use Rattle.soundness.proofs.InScripts.{nesting_past}
-use Rattle.soundness.proofs.Frames.{keeps-set_deadline}
-use Rattle.soundness.proofs.Sound.{CanBeReady, renotified, made_ready, answered}
+use Rattle.soundness.proofs.Keeping.{keeps-set_deadline}
+use Rattle.soundness.proofs.Sound.{renotified, made_ready, answered}
+use Rattle.soundness.proofs.Reckoned.{CanBeReady}
 use Rattle.soundness.proofs.Phases.{unsuspended}
 use Rattle.soundness.proofs.Bits.{stays-set_deadline, WaitsApart, wait_started, dated_sound, dated_ready}
 

@@ -21,7 +21,8 @@ use Rattle.soundness.proofs.InScripts.{nesting_past}
 use Rattle.soundness.proofs.Sound.{preempted, answered, otherwise, plain}
 use Rattle.soundness.proofs.Suspending.{suspended_task, resumed_task, resumed_scheduler}
 use Rattle.soundness.proofs.Notified.{notified_task}
-use Rattle.soundness.proofs.Handled.{Spares, spares-resume, spares-notify}
+use Rattle.soundness.proofs.Handled.{spares-resume, spares-notify}
+use Rattle.soundness.proofs.Sparing.{Spares}
 use Rattle.soundness.proofs.Going.{resumed_apart}
 
 -- a suspend leaves each task at its op, and nobody begins to wait

@@ -14,7 +14,7 @@ use Rattle.model.specs.Run.{injected, state_after}
 use Rattle.model.specs.Invariant.{IsNonePending}
 use Rattle.model.proofs.Sorting.{by_test}
 use Rattle.model.proofs.Lists.{eqb-refl, eqb-same}
-use Rattle.soundness.proofs.Frames.{pending_in, keeps-unless_held, keeps-settle, keeps-all_ready}
+use Rattle.soundness.proofs.Keeping.{pending_in, keeps-unless_held, keeps-settle, keeps-all_ready}
 use Rattle.soundness.proofs.Coming.{comes-serve, comes-inject, ticks_before, ticks_in}
 use Rattle.soundness.proofs.Moving.{pending-act_current}
 

@@ -25,9 +25,9 @@ use Rattle.model.proofs.Sorting.{by_test}
 use Rattle.model.proofs.Tables.{ticket_at, each-set_but}
 use Rattle.model.proofs.Unlocking.{opened_by, none_left, still_at, current-all_ready, none_awake}
 use Rattle.soundness.proofs.Sound.{framed, all_made_ready, chosen, preempted}
-use Rattle.soundness.proofs.Frames.{Keeps, keeps-inherit, keeps-all_ready, keeps-choose, keeps-preempt}
+use Rattle.soundness.proofs.Keeping.{Keeps, keeps-inherit, keeps-all_ready, keeps-choose, keeps-preempt}
 use Rattle.soundness.proofs.Settled.{neither, ticks_held_by_call, unlike}
-use Rattle.soundness.proofs.Passing.{suspension-end_hold, hold-end_hold}
+use Rattle.soundness.proofs.Ticking.{suspension-end_hold, hold-end_hold}
 use Rattle.soundness.proofs.Suspending.{all_applied}
 use Rattle.soundness.proofs.Unlocked.{opened_can, unlocked_by}
 use Rattle.soundness.proofs.Inheriting.{Reranks, reranks-inherit, inherited}

@@ -7,7 +7,7 @@ use Rattle.std.proofs.lemmas.List.{length-map}
 use Rattle.model.specs.declared.object.ObjectKind.{ObjectKind}
 use Rattle.model.specs.declared.object.ObjectKind.TheVariants.{Queue, Semaphore, Mutex}
 use Rattle.model.specs.declared.plan.Injection.{Injection}
-use Rattle.model.specs.Application.{Application, Limits, Definition, Handler}
+use Rattle.model.specs.Application.{Application, Limits, Definition}
 use Rattle.model.specs.Scripts.{IsDefinition, IsObjectKind, IsWellFormed}
 use Rattle.model.specs.State.{State, no_task, no_object, no_source, for_each}
 use Rattle.model.specs.Switching.{make_ready, choice}
@@ -20,10 +20,11 @@ use Rattle.model.proofs.Chosen.{choice_within}
 use Rattle.model.proofs.Resets.{none_taken, call-reset, holders-reset}
 use Rattle.soundness.proofs.Settled.{settled-reset}
 use Rattle.soundness.proofs.InScripts.{used_none}
-use Rattle.soundness.proofs.Frames.{keeps-all_ready}
+use Rattle.soundness.proofs.Keeping.{keeps-all_ready}
 use Rattle.soundness.proofs.Passing.{task_holds}
 use Rattle.soundness.proofs.Moving.{moves-step, suspension-reset}
-use Rattle.soundness.proofs.Sound.{CanBeReady, all_made_ready, runs, call_none}
+use Rattle.soundness.proofs.Sound.{all_made_ready, runs}
+use Rattle.soundness.proofs.Reckoned.{CanBeReady, call_none}
 use Rattle.soundness.proofs.Phases.{free, unsuspended}
 use Rattle.soundness.proofs.Stepped.{at_rest}
 use Rattle.soundness.proofs.Begun.{reached_step}

@@ -3,12 +3,10 @@ use Rattle.model.specs.declared.op.Op.TheVariants as op
 use Rattle.model.specs.declared.op.Op.TheVariants.{Value}
 use Rattle.soundness.proofs.Passing.{by_value}
 use Rattle.model.specs.Step.{call_with_number}
-use Rattle.soundness.proofs.Handled.{fits-number, list_for-number}
+use Rattle.soundness.proofs.Sparing.{fits-number, list_for-number}
 use Rattle.model.specs.declared.value.Value as value
-use Rattle.std.proofs.Common.{ap₂, ◌≡◌, ◌≢◌, ◌<◌, ◌+◌, ◌-◌, ◌||◌, ◌⊎◌, inl, inr, ℕ, true, false, eqb, ltb, List, [], ◌∷◌, length}
-use Rattle.std.proofs.Common.{map, slice_set, Option, Some, None, refl, ap, sym, subst, ◌∙◌, arith}
-use Rattle.std.proofs.Math.ListN.{length-set}
-use Rattle.std.proofs.lemmas.List.{length-map}
+use Rattle.std.proofs.Common.{ap₂, ◌≡◌, ◌≢◌, ◌<◌, ◌+◌, ◌-◌, ◌||◌, ◌⊎◌, inl, inr, ℕ, true, false, eqb, ltb, List, length}
+use Rattle.std.proofs.Common.{Option, Some, None, refl, ap, sym, subst, ◌∙◌, arith}
 use Rattle.std.specs.Option.{IfSome, option_eq}
 use Rattle.std.proofs.lemmas.Bool.{ltb-true, lt-ltb}
 use Rattle.model.specs.declared.op.Op.{Op}
@@ -30,7 +28,7 @@ use Rattle.model.specs.declared.event.Event.{Event}
 use Rattle.model.specs.declared.event.End as ending
 use Rattle.model.specs.Application.{Application, Limits, script_of, op_at}
 use Rattle.model.specs.Scripts.{IsWellFormed, fits_object, is_wait}
-use Rattle.model.specs.State.{State, Source, task_at, progress_at, status_at, call_at, bits_at, source_at, go_on, for_each}
+use Rattle.model.specs.State.{State, Source, task_at, progress_at, status_at, call_at, bits_at, go_on}
 use Rattle.model.specs.State.{notification_at, with_notification}
 use Rattle.model.specs.Switching.{choose, is_ready, preempt, settle, is_scheduler_suspended, is_critical, is_held, is_held_by_task}
 use Rattle.model.specs.Switching.{holds_ticks}
@@ -43,27 +41,31 @@ use Rattle.model.specs.Groups.{is_met, begin_set, set_bits, check, final_bits, w
 use Rattle.model.specs.Notifications.{entered, is_there, end_notification_wait, check_notification, await_notification}
 use Rattle.model.specs.Suspension.{suspend_all, resume_all}
 use Rattle.model.specs.Daemon.{take_command, next_command, obeyed, obey, command_at}
-use Rattle.model.specs.Handlers.{handle, serve, inject, pend, pending_of, none_pending, serve_pending}
+use Rattle.model.specs.Handlers.{pend}
 use Rattle.model.specs.Step.{is_ended, judge, act, act_by_value, act_unless, may_switch, is_barred, misuse, act_if, act_current}
-use Rattle.model.specs.Step.{before_step, step}
+use Rattle.model.specs.Step.{step}
 use Rattle.model.specs.Invariant.{Hold, hold_of, InOne, OnObject, UntilWoken, ToSetBits, course, list_of_op, IsPhaseOf, IsSound}
 use Rattle.model.specs.Invariant.{holds, IsStranded, IsRunning, RunsIn, Suspension, suspension_of, IsState}
 use Rattle.model.proofs.Sorting.{by_test}
 use Rattle.model.proofs.Lists.{eqb-same}
 use Rattle.model.proofs.Statuses.{ready_free}
-use Rattle.soundness.proofs.Settled.{IsSettled, settled-settle, settled-preempt, when_held, when_free, held_by_call, held_by_none}
+use Rattle.soundness.proofs.Settled.{IsSettled, settled-settle, when_held, when_free, held_by_call, held_by_none}
 use Rattle.soundness.proofs.Settled.{nothing_holds, unlike, held_by_task, held_by_neither, no_task_holds, neither, by_suspending}
 use Rattle.soundness.proofs.Settled.{section_holds, ticks_as_they_were, ticks_free, nothing_holds_ticks}
 use Rattle.soundness.proofs.InScripts.{script_formed, range_at, known_at}
-use Rattle.soundness.proofs.Frames.{keeps-settle, keeps-choose, keeps-answer, keeps-answer_bits, keeps-try, keeps-set_deadline}
-use Rattle.soundness.proofs.Frames.{keeps-end_notification_wait, keeps-use_up, keeps-preempt, keeps-take_command, keeps-obeyed}
+use Rattle.soundness.proofs.Frames.{keeps-answer_bits, keeps-try}
+use Rattle.soundness.proofs.Keeping.{keeps-settle, keeps-choose, keeps-answer, keeps-set_deadline}
+use Rattle.soundness.proofs.Frames.{keeps-end_notification_wait, keeps-take_command, keeps-obeyed}
+use Rattle.soundness.proofs.Keeping.{keeps-use_up, keeps-preempt}
 use Rattle.soundness.proofs.Frames.{keeps-clear_by_daemon}
-use Rattle.soundness.proofs.Passing.{is_instant, ends-act, lasts-final_bits, hold-end_hold}
-use Rattle.soundness.proofs.Passing.{hold-idle, suspension-idle, hold-act, suspension-tick, suspensions-tick, suspends-all}
+use Rattle.soundness.proofs.Passing.{is_instant, ends-act}
+use Rattle.soundness.proofs.Ticking.{lasts-final_bits, hold-end_hold}
+use Rattle.soundness.proofs.Passing.{hold-act, suspends-all}
+use Rattle.soundness.proofs.Ticking.{hold-idle, suspension-idle, suspension-tick, suspensions-tick}
 use Rattle.soundness.proofs.Passing.{resumes-all, Opens, opens}
 use Rattle.soundness.proofs.Judging.{judged_held, judged_calm, not_ended, misuse_calm, not_barred, switches_not}
-use Rattle.soundness.proofs.Sound.{logged, settled, preempted, resourced}
-use Rattle.soundness.proofs.Handled.{and_left, and_right, idled}
+use Rattle.soundness.proofs.Sound.{logged, settled, preempted}
+use Rattle.soundness.proofs.Sparing.{and_left, and_right, idled}
 use Rattle.soundness.proofs.Trying.{tried}
 use Rattle.soundness.proofs.Called.{dated, dated_at, phase_free, course_of_one}
 use Rattle.soundness.proofs.Phases.{free, unsuspended, calm_free, none_above, calm_where, calm_held, let_go_of, decided}

@@ -14,7 +14,7 @@ use Rattle.model.specs.Suspension.{can_suspend, can_resume, suspend, resumed, re
 use Rattle.model.specs.Invariant.{IsReckoned, Hold, Suspension, IsSound, wait_of}
 use Rattle.model.proofs.Sorting.{by_test}
 use Rattle.model.proofs.Tables.{ticket_at, each-set}
-use Rattle.soundness.proofs.Frames.{keeps-wake_due}
+use Rattle.soundness.proofs.Keeping.{keeps-wake_due}
 use Rattle.soundness.proofs.Sound.{changed, made_ready, kept_free, held_no_more, otherwise, woken}
 use Rattle.soundness.proofs.Called.{phase_again}
 

@@ -6,21 +6,22 @@ use Rattle.model.specs.Application.{Application, interrupts_at}
 use Rattle.model.specs.Scripts.{IsWellFormed}
 use Rattle.model.specs.State.{State, Task, ticket_if_ready, task_at, for_each}
 use Rattle.model.specs.Order.{tasks_of}
-use Rattle.model.specs.Switching.{is_ready, slice, is_held, holds_ticks, is_critical, unless_held}
+use Rattle.model.specs.Switching.{is_ready, slice, is_held, holds_ticks, is_critical}
 use Rattle.model.specs.Time.{wake_due, due, delayed_list, advance, increment_tick}
 use Rattle.model.specs.Handlers.{come as comes, interrupt, raised_now, none_raised_now, tick_interrupt}
-use Rattle.model.specs.Invariant.{hold_of, IsSound, RunsIn, IsRunning, IsState}
+use Rattle.model.specs.Invariant.{hold_of, RunsIn, IsState}
 use Rattle.model.proofs.Sorting.{by_test}
 use Rattle.model.proofs.Unlocking.{current-all_ready}
 use Rattle.soundness.proofs.Settled.{IsSettled, settled-slice, when_held, when_free, nothing_holds, no_task_holds, ticks_free}
 use Rattle.soundness.proofs.Settled.{unlike}
-use Rattle.soundness.proofs.Passing.{held-told, hold-tick, suspension-tick}
+use Rattle.soundness.proofs.Ticking.{held-told, hold-tick, suspension-tick}
 use Rattle.soundness.proofs.Released.{all_but, due_apart}
 use Rattle.soundness.proofs.Sound.{held_up}
-use Rattle.soundness.proofs.Handled.{ticked, come_between, lowered_between}
+use Rattle.soundness.proofs.Handled.{come_between, lowered_between}
+use Rattle.soundness.proofs.Sparing.{ticked}
 use Rattle.soundness.proofs.Going.{spares-interrupt}
 use Rattle.soundness.proofs.Phases.{free}
-use Rattle.soundness.proofs.Stepped.{at_rest, calm_now, hold_none, no_call_holds, sound_free}
+use Rattle.soundness.proofs.Stepped.{at_rest, calm_now, hold_none, sound_free}
 
 -- ---- who runs
 

@@ -20,7 +20,7 @@ use Rattle.model.specs.Calls.{try}
 use Rattle.model.specs.Invariant.{Hold, course, IsPhaseOf, IsObject, IsSound}
 use Rattle.model.proofs.Sorting.{by_test}
 use Rattle.soundness.proofs.Sound.{preempted}
-use Rattle.soundness.proofs.Frames.{keeps-disinherit}
+use Rattle.soundness.proofs.Keeping.{keeps-disinherit}
 use Rattle.soundness.proofs.Called.{stored, woken_best, spared_best, spared_fulfil, fulfilled, replied, went_on}
 use Rattle.soundness.proofs.Inheriting.{reranks-after_timeout, reranks-disinherit, timed_out, disinherited}
 

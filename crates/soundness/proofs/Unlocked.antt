@@ -12,7 +12,7 @@ use Rattle.model.specs.Waiting.{wait_key, awakened, unlock_object}
 use Rattle.model.specs.Invariant.{IsReckoned}
 use Rattle.model.proofs.Lists.{HasKey, list_has}
 use Rattle.model.proofs.Unlocking.{opened_by, awake_key}
-use Rattle.soundness.proofs.Sound.{CanBeReady}
+use Rattle.soundness.proofs.Reckoned.{CanBeReady}
 
 awake_reckoned : (list : WaitList) (now previous : ℕ) (u : Status) (k : Key)
     → option_and_then (wait_key list) (wait_if_awake u) ≡ Some k → IsReckoned now previous u → previous ≤ now

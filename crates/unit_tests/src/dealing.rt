@@ -1,5 +1,5 @@
 //! Lanes in turn, on one thread.
-ghost use Rattle.std.specs.Prelude.{◌<◌, ◌≤◌};
+ghost use Rattle.std.specs.Prelude.{◌<◌};
 ghost use Rattle.deal.specs.Sharing.{Game, AreLanesOf};
 
 use deal::{Closed, Deal, Division, Lane, Next};

@@ -1,10 +1,9 @@
-use Rattle.std.proofs.Common.{◌≡◌, ◌<◌, ◌≤◌, ◌∙◌, ℕ, Bool, true, false, ltb, ltb-false, List, length, Option, ap, refl, arith}
-use Rattle.std.proofs.Common.{rules}
+use Rattle.std.proofs.Common.{◌≡◌, ◌<◌, ◌∙◌, ℕ, true, false, ltb, ltb-false, List, length, Option, ap, arith}
 use Rattle.std.proofs.Common.{sym}
 use Rattle.std.proofs.Common.{take}
 use Rattle.std.proofs.Math.ListN.{length-set}
 use Rattle.std.proofs.lemmas.Bool.{ltb-true}
-use Rattle.std.proofs.lemmas.List.{get_or_past, get_or-set_other}
+use Rattle.std.proofs.lemmas.List.{get_or-set_other}
 use Rattle.model.proofs.Sorting.{by_test}
 use Rattle.machine.specs.declared.arrivals.Arrival.{Arrival}
 use Rattle.machine.specs.Arrivals.{arrival_in, at_any_time, is_due, lowered, sooner, soonest}

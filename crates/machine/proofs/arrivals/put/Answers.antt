@@ -1,4 +1,4 @@
-use Rattle.std.proofs.Common.{◌≡◌, ◌∙◌, ◌<◌, ℕ, List, Option, length, ap, sym, arith}
+use Rattle.std.proofs.Common.{◌∙◌, ◌<◌, ℕ, List, Option, length, ap, sym, arith}
 use Rattle.machine.specs.declared.arrivals.Arrival.{Arrival}
 use Rattle.machine.specs.Arrivals.{at_any_time, sooner}
 use Rattle.machine.proofs.Arriving.{is_there, soonest_with_one}

@@ -1,7 +1,7 @@
 use Rattle.std.proofs.Common.{ℕ, [], Option, Some, None, ap, sym, subst, ◌∙◌, arith, refl}
 use Rattle.model.specs.declared.call.Phase.TheVariants.{Decide}
 use Rattle.model.specs.declared.op.Access.{Access}
-use Rattle.model.specs.State.{Progress, object_at, progress_at}
+use Rattle.model.specs.State.{object_at, progress_at}
 use Rattle.model.specs.Ops.{answer}
 use Rattle.model.specs.Objects.{allows, answer_to, fulfil}
 use Rattle.model.specs.Mutexes.{after_timeout}

@@ -1,4 +1,4 @@
-use Rattle.std.proofs.Common.{ℕ, ◌+◌, ◌<◌, Some, length, get_or-set_same, ap, refl, sym, ◌∙◌, arith}
+use Rattle.std.proofs.Common.{ℕ, ◌+◌, ◌<◌, length, get_or-set_same, ap, refl, sym, ◌∙◌, arith}
 use Rattle.std.specs.Option.{option_map}
 use Rattle.model.specs.declared.call.Phase.TheVariants.{Leave}
 use Rattle.model.specs.Notifications as definitions

@@ -1,5 +1,5 @@
-use Rattle.std.proofs.Common.{◌≡◌, ap, ap₂, List, ℕ, refl, sym, ◌∙◌, arith}
-use Rattle.model.specs.State.{Progress, notification_at}
+use Rattle.std.proofs.Common.{ap, ap₂, List, ℕ, refl, sym, ◌∙◌, arith}
+use Rattle.model.specs.State.{Progress}
 use Rattle.model.specs.Notifications.{lacks_notify_value, notify_answer, notify_with_number}
 use Rattle.machine.specs.StandsFor.Stands.{Placed}
 use Rattle.machine.proofs.Either.{variables_are}

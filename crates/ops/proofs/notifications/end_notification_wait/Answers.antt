@@ -1,4 +1,4 @@
-use Rattle.std.proofs.Common.{◌≡◌, ℕ, Option, Some, ap, subst, ◌∙◌}
+use Rattle.std.proofs.Common.{◌≡◌, ℕ, Option, ap, subst, ◌∙◌}
 use Rattle.model.specs.declared.notification.Notification.{Notification}
 use Rattle.model.specs.State.{notification_at, with_notification}
 use Rattle.model.specs.Notifications as definitions

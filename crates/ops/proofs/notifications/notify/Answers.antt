@@ -1,6 +1,6 @@
 use Rattle.std.proofs.Common.{◌≡◌, refl, ap, sym, subst, ◌∙◌}
 use Rattle.model.specs.declared.notification.Notification.{Notification}
-use Rattle.model.specs.State.{State, notification_at, with_notification}
+use Rattle.model.specs.State.{notification_at, with_notification}
 use Rattle.model.specs.Notifications as definitions
 use Rattle.model.specs.Notifications.{notified, wake_notified}
 use Rattle.machine.specs.declared.machine.Machine.{Machine}

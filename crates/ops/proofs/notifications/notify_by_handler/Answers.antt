@@ -1,4 +1,4 @@
-use Rattle.std.proofs.Common.{◌≡◌, ℕ, List, ap, subst, ◌∙◌}
+use Rattle.std.proofs.Common.{ℕ, List, ap, subst, ◌∙◌}
 use Rattle.model.specs.declared.notification.NotifyAction.{NotifyAction}
 use Rattle.model.specs.Notifications.{notify, notify_with_number}
 use Rattle.machine.specs.StandsFor.{At, AtAny}

@@ -1,5 +1,5 @@
-use Rattle.std.proofs.Common.{◌≡◌, true, false, refl, sym, ◌∙◌}
-use Rattle.model.specs.State.{State, status_at, waits_for_notification}
+use Rattle.std.proofs.Common.{true, false, refl, sym, ◌∙◌}
+use Rattle.model.specs.State.{waits_for_notification}
 use Rattle.machine.proofs.Either.{any, either}
 use Rattle.ops.proofs.Notifying.{groups_are, notified_at, notified_before, notified_unsuspended, notified_within, unnotified_any}
 use Rattle.ops.proofs.Notifying.{apart_from_placing, unnotified_at, unready_there}

@@ -1,4 +1,4 @@
-use Rattle.std.proofs.Common.{◌≡◌, ◌∙◌, Some, ap, map, rules, sym, true, subst}
+use Rattle.std.proofs.Common.{◌≡◌, Some, ap, map, sym, true, subst}
 use Rattle.std.specs.Prelude.{List}
 use Rattle.grammar.specs.Grammar.{words_of}
 use Rattle.grammar.specs.Points.{RawOne, RawPair, pair_view, raw_of}

@@ -1,4 +1,4 @@
-use Rattle.std.proofs.Common.{◌+◌, ◌∙◌, sym, ap, subst}
+use Rattle.std.proofs.Common.{◌+◌, sym, subst}
 use Rattle.model.specs.Time as time
 use Rattle.clock.specs.Timeline.{Timeline}
 use Rattle.clock.specs.StandsFor.{StandsFor, StandsBefore}

@@ -1,5 +1,5 @@
-use Rattle.std.proofs.Common.{◌≡◌, ◌*◌, ◌/◌, ◌%◌, ℕ, ◌+◌, ◌^◌, [], ap, sym, subst, ◌∙◌, arith}
-use Rattle.clock.specs.Timeline.{Jumps, Timeline}
+use Rattle.std.proofs.Common.{[], ap, ◌∙◌, arith}
+use Rattle.clock.specs.Timeline.{Timeline}
 use Rattle.clock.proofs.Standing.{due_jump, stands_jumped}
 use Rattle.clock.proofs.Unslept.{clock_unslept, jumps_unslept}
 use Rattle.clock.proofs.clock.Clock.jump_unslept.Goals as goal

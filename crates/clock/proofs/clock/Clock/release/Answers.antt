@@ -1,4 +1,4 @@
-use Rattle.std.proofs.Common.{◌-◌, sym, ap, subst}
+use Rattle.std.proofs.Common.{◌-◌, sym, subst}
 use Rattle.clock.specs.Timeline.{Timeline}
 use Rattle.clock.specs.StandsFor.{StandsFor, before_held}
 use Rattle.clock.proofs.Standing.{held_now, stands_released}

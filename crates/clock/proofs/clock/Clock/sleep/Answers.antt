@@ -2,7 +2,7 @@ use Rattle.std.proofs.Common.{◌≡◌, ℕ, ◌<◌, ◌≤◌, ◌+◌, ◌*�
 use Rattle.lists.specs.Lists.{IsSound, insert_sorted}
 use Rattle.clock.specs.Timeline.{Timeline, IsClock, delayed_list_of, is_asleep}
 use Rattle.clock.proofs.Sleeping.{no_place, into_current, into_overflow, delayed-current, delayed-overflow}
-use Rattle.clock.proofs.Standing.{stands_placed, stands_slept}
+use Rattle.clock.proofs.Sleepers.{stands_placed, stands_slept}
 use Rattle.clock.proofs.clock.Clock.sleep.Goals as goal
 
 pub insert_sorted_from_back-requires : goal.insert_sorted_from_back-requires

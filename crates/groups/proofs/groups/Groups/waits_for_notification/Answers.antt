@@ -1,7 +1,7 @@
 use Rattle.std.proofs.Common.{◌≡◌, None, Some, sym, ◌∙◌, subst, ap}
 use Rattle.std.specs.Option.{option_map}
 use Rattle.lists.specs.Lists.{place_of}
-use Rattle.model.specs.State.{State, status_at}
+use Rattle.model.specs.State.{status_at}
 use Rattle.groups.specs.EventGroups.{EventGroups}
 use Rattle.groups.specs.StandsFor.{StandsFor}
 use Rattle.groups.proofs.Keys.{unnotified}

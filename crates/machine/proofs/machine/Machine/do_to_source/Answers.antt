@@ -1,9 +1,7 @@
-use Rattle.std.proofs.Common.{◌≡◌, ◌∙◌, ◌<◌, ◌≤◌, ℕ, ap, set, subst}
-use Rattle.model.specs.State.{State, Source}
+use Rattle.std.proofs.Common.{◌∙◌, ap, set, subst}
 use Rattle.machine.specs.declared.arrivals.Arrival.{Arrival}
-use Rattle.machine.specs.Arrivals.{after_op}
 use Rattle.machine.specs.Sources.{is_pending, source_from, source_of}
-use Rattle.machine.specs.StandsFor.{AreSources, At, AtAny, released_ticks}
+use Rattle.machine.specs.StandsFor.{At, AtAny, released_ticks}
 use Rattle.machine.specs.StandsFor.Stands.{Placed}
 use Rattle.machine.proofs.Beside.{sourced_at, sourced_any}
 use Rattle.machine.proofs.Either.{elapsed_is, sources_are}

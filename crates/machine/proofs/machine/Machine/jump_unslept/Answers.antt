@@ -1,4 +1,4 @@
-use Rattle.std.proofs.Common.{[], refl}
+use Rattle.std.proofs.Common.{[]}
 use Rattle.machine.proofs.Waking.{sched-jumped, objects-jumped, groups-jumped, jumped}
 use Rattle.machine.proofs.machine.Machine.jump_unslept.Goals as goal
 

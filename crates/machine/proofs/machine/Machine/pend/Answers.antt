@@ -1,7 +1,7 @@
-use Rattle.std.proofs.Common.{◌≡◌, ◌∙◌, true, false, refl, set, subst, sym}
-use Rattle.model.specs.State.{State, Source, source_at, with_source}
+use Rattle.std.proofs.Common.{◌≡◌, ◌∙◌, true, false, set, sym}
+use Rattle.model.specs.State.{Source, source_at, with_source}
 use Rattle.model.specs.Handlers.{can_come, note_coming, pend}
-use Rattle.machine.specs.StandsFor.{AreSources, AtAny, released_ticks}
+use Rattle.machine.specs.StandsFor.{released_ticks}
 use Rattle.machine.proofs.Beside.{sourced_any}
 use Rattle.machine.proofs.Pending.{are_pended}
 use Rattle.machine.proofs.machine.Machine.pend.Goals as goal

@@ -1,4 +1,3 @@
-use Rattle.std.proofs.Common.{sym}
 use Rattle.machine.proofs.Beside.{noted_any, noted_at}
 use Rattle.machine.proofs.machine.Machine.set_notification.Goals as goal
 

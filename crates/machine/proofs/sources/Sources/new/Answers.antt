@@ -1,5 +1,5 @@
 use Rattle.std.proofs.Common.{◌≡◌, ◌≢◌, ◌∙◌, ◌<◌, ◌+◌, ℕ, Bool, true, false, eqb, List, [], ◌∷◌, ◌++◌, length, map, take}
-use Rattle.std.proofs.Common.{get_or, set, ap, refl, sym, subst, arith, get_or-set_same, get_or-set_other}
+use Rattle.std.proofs.Common.{get_or, set, ap, refl, sym, arith, get_or-set_same, get_or-set_other}
 use Rattle.std.proofs.lemmas.List.{take_more, map-append, length-map, get_or_past}
 use Rattle.std.proofs.Math.ListN.{length-set, length-take}
 use Rattle.model.proofs.Sorting.{by_test}
@@ -8,7 +8,7 @@ use Rattle.model.specs.Application.{Handler}
 use Rattle.model.specs.State.{Source, no_source}
 use Rattle.model.specs.Step.{source_at_reset}
 use Rattle.machine.specs.declared.arrivals.Arrival.{Arrival}
-use Rattle.machine.specs.Arrivals.{arrival_in, at_any_time}
+use Rattle.machine.specs.Arrivals.{at_any_time}
 use Rattle.machine.specs.Sources.{Sources, is_pending, source_in, source_of}
 use Rattle.machine.proofs.Arriving.{last_is, not_last, with_last}
 use Rattle.machine.proofs.sources.Sources.new.Goals.{then-not-armed, else-not-armed}

@@ -1,4 +1,4 @@
-use Rattle.std.proofs.Common.{◌∙◌, refl}
+use Rattle.std.proofs.Common.{◌∙◌}
 use Rattle.objects.proofs.Rings.{front_holds}
 use Rattle.objects.proofs.items.Items.save.Goals as goal
 

@@ -2,7 +2,7 @@ use Rattle.std.proofs.Common.{List, [], ◌∷◌}
 use Rattle.clap.specs.Words.{Rule}
 use Rattle.requests.specs.Words.{file_rule, handlers_rule, injections_rule}
 use Rattle.requests.proofs.Commands.{AreArgsOf, with_arguments}
-use Rattle.requests.proofs.words.explore_command.Goals as goal
+use Rattle.requests.proofs.arguments.explore_command.Goals as goal
 
 pub returns : goal.returns
 returns c =

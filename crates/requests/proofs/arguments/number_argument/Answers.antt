@@ -4,7 +4,7 @@ use Rattle.std.specs.Int.{int_min}
 use Rattle.clap.specs.declared.builder.value_parser.ValueParser.{ValueParser}
 use Rattle.clap.specs.declared.builder.value_parser.ValueParser.TheVariants.{Signed}
 use Rattle.clap.specs.Words.{NarrowsTo, signed_between}
-use Rattle.requests.proofs.words.number_argument.Goals as goal
+use Rattle.requests.proofs.arguments.number_argument.Goals as goal
 
 -- A number of 32 bits is not above the greatest one.
 least : (most : ℕ) → most < 2 ^ 32 → int_min (pos 4294967295) (pos most) ≡ pos most

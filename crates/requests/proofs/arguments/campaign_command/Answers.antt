@@ -2,7 +2,7 @@ use Rattle.std.proofs.Common.{List, [], ◌∷◌}
 use Rattle.clap.specs.Words.{Rule}
 use Rattle.requests.specs.Words.{file_rule, only_rule, heads_rule, shard_rule, workers_rule, stride_rule, block_rule, quiet_rule}
 use Rattle.requests.proofs.Commands.{AreArgsOf, with_arguments}
-use Rattle.requests.proofs.words.campaign_command.Goals as goal
+use Rattle.requests.proofs.arguments.campaign_command.Goals as goal
 
 pub returns : goal.returns
 returns c =

@@ -2,7 +2,7 @@ use Rattle.std.proofs.Common.{List, [], ◌∷◌}
 use Rattle.clap.specs.Words.{Rule}
 use Rattle.requests.specs.Words.{file_rule, at_rule, handler_rule, point_rule, state_rule}
 use Rattle.requests.proofs.Commands.{AreArgsOf, with_arguments}
-use Rattle.requests.proofs.words.run_command.Goals as goal
+use Rattle.requests.proofs.arguments.run_command.Goals as goal
 
 pub returns : goal.returns
 returns c =

@@ -1,6 +1,6 @@
 use Rattle.requests.specs.Words.{rtosim_app}
 use Rattle.requests.proofs.Commands.{with_command}
-use Rattle.requests.proofs.words.command.Goals as goal
+use Rattle.requests.proofs.arguments.command.Goals as goal
 
 pub returns : goal.returns
 unfolding rtosim_app
