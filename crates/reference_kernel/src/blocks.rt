@@ -1,10 +1,10 @@
-//! Loops and branches: where a script goes on is found by a search of it.
+//! Loops and branches. A search of the script finds where it continues.
 
 use super::{ReferenceKernel, Task, count_if};
 use model::{AnswerCondition, App, End, Loop, Op, Script, TaskId};
 
-/// Where a task goes on that leaves the branch or the loop whose first op is this one: behind its `else` or its `end`. Blocks that
-/// open on the way are passed whole.
+/// Where a task continues when it leaves the branch or loop whose first op is this one: after its `else` or its `end`. Nested
+/// blocks are skipped whole.
 fn behind_block(app: &App, id: TaskId, first: u16) -> u16 {
     let mut opened = 0_u16;
     for index in first..Script::MOST_OPS as u16 {
@@ -19,13 +19,13 @@ fn behind_block(app: &App, id: TaskId, first: u16) -> u16 {
 }
 
 impl ReferenceKernel {
-    /// Counts a jump that came to the end of the script.
+    /// Counts a jump that reached the end of the script.
     fn count_end(&mut self, id: TaskId) {
         let is_over = self.is_ended(id);
         count_if(&mut self.tally.ending_jumps, is_over);
     }
 
-    /// The task, which is now as given, leaves the branch or the loop whose first op is this one.
+    /// Stores the task's new state, and leaves the branch or loop whose first op is this one.
     fn leave_block(&mut self, app: &App, id: TaskId, first: u16, task: Task) {
         let next = behind_block(app, id, first);
         self.go_to(app, id, next, task);

@@ -1,4 +1,4 @@
-//! Calls on objects: who waits, who is woken, and the phases of a call that waits.
+//! Calls on objects: which tasks wait, which are woken, and the phases of a call that waits.
 
 use super::{Call, ReferenceKernel, Status, Task, Wait, count_if};
 use model::{Access, App, Phase, TaskId, Value};
@@ -10,7 +10,7 @@ pub(super) enum Side {
     Senders,
 }
 
-/// What a call puts into a queue, if it puts anything there.
+/// The value that a call puts into a queue, if any.
 pub(super) fn item_of(access: Access<Value>) -> Option<Value> {
     match access {
         Access::Send(item) | Access::SendFront(item) | Access::Overwrite(item) => Some(item),
@@ -18,7 +18,7 @@ pub(super) fn item_of(access: Access<Value>) -> Option<Value> {
     }
 }
 
-/// What a call answers that fails.
+/// What a failed call returns.
 fn failure(access: Access<u32>) -> Option<u32> {
     match access {
         Access::Receive | Access::Peek => None,
@@ -31,7 +31,7 @@ fn failure(access: Access<u32>) -> Option<u32> {
     }
 }
 
-/// Where a call waits.
+/// The side at which a call waits.
 fn own_side(access: Access<u32>) -> Side {
     match access {
         Access::Send(_) | Access::SendFront(_) | Access::Overwrite(_) => Side::Senders,
@@ -41,8 +41,8 @@ fn own_side(access: Access<u32>) -> Side {
     }
 }
 
-/// Where a call of a task or (none) of a handler wakes one who waits. A task's peek leaves the item to the next one, and
-/// that of a handler wakes nobody.
+/// The side at which a call wakes a waiting task, if it wakes one. `caller` is `None` for a handler. A task's peek leaves the item
+/// to the next waiter. A handler's peek wakes nobody.
 fn woken_side(caller: Option<TaskId>, access: Access<u32>) -> Option<Side> {
     match access {
         Access::Send(_) | Access::SendFront(_) | Access::Overwrite(_) | Access::Give => {
@@ -55,7 +55,7 @@ fn woken_side(caller: Option<TaskId>, access: Access<u32>) -> Option<Side> {
 }
 
 impl ReferenceKernel {
-    /// The wait in which a task is, or out of which it is Awake.
+    /// The wait that a task is in, or from which it was woken and is now Awake.
     pub(super) fn wait_of(&self, task: TaskId, is_awake: bool) -> Option<Wait> {
         match self.task(task).status {
             Status::Waiting(wait) if !is_awake => Some(wait),
@@ -64,8 +64,8 @@ impl ReferenceKernel {
         }
     }
 
-    /// The best of those who wait at this side of an object, or of those who are Awake out of such waits: the one of highest
-    /// priority when its wait began, and among equals the first that came.
+    /// The best waiter at this side of an object, or the best task that is Awake from such a wait. That is the task with the
+    /// highest priority when its wait began. Among equals it is the first that came.
     pub(super) fn best_of(&self, object: u8, side: Side, is_awake: bool) -> Option<TaskId> {
         let mut best = None;
         for number in 0..32 {
@@ -84,7 +84,7 @@ impl ReferenceKernel {
         TaskId::new(number)
     }
 
-    /// Whether an object is locked at which some wait for an item and others for room.
+    /// Whether some tasks wait for an item of the locked object, and others for room.
     pub fn has_both_at_lock(&self) -> bool {
         self.locked.is_some_and(|object| {
             self.best_of(object, Side::Receivers, false).is_some()
@@ -92,8 +92,7 @@ impl ReferenceKernel {
         })
     }
 
-    /// The best of those who wait at this side of an object, if there is one, is woken: it is Ready, or Awake where the
-    /// object is locked.
+    /// Wakes the best waiter at this side of an object, if there is one. It becomes Ready, or Awake if the object is locked.
     pub(super) fn wake_best(&mut self, object: u8, side: Side) {
         let Some(id) = self.best_of(object, side, false) else {
             return;
@@ -122,7 +121,7 @@ impl ReferenceKernel {
         count_if(count, true);
     }
 
-    /// A possible call of a task or (none) of a handler is done, and wakes one task at most. It answers as the call.
+    /// Carries out a possible call, and wakes at most one task. `caller` is `None` for a handler. Returns what the call returns.
     pub(super) fn fulfil(
         &mut self,
         caller: Option<TaskId>,
@@ -142,7 +141,7 @@ impl ReferenceKernel {
         }
     }
 
-    /// A call of a task or (none) of a handler is tried once. It answers as the call.
+    /// Tries a call once. `caller` is `None` for a handler. Returns what the call returns.
     pub(super) fn attempt(
         &mut self,
         caller: Option<TaskId>,
@@ -183,7 +182,7 @@ impl ReferenceKernel {
         deadline.is_some_and(|deadline| deadline <= self.time)
     }
 
-    /// Until when a call may wait that begins now and waits for this many ticks, or for ever.
+    /// The deadline of a call that starts now and waits for this many ticks; `None` if it waits forever.
     pub(super) fn deadline_after(&self, ticks: Option<u32>) -> Option<u64> {
         match ticks {
             None => None,
@@ -244,7 +243,7 @@ impl ReferenceKernel {
         );
     }
 
-    /// All who are Awake at this side of an object are Ready. It answers whether there are any.
+    /// Makes all tasks Ready that are Awake at this side of an object. Returns whether there are any.
     fn make_awake_ready(&mut self, object: u8, side: Side) -> bool {
         let mut is_any = false;
         for _ in 0..32 {
@@ -257,7 +256,7 @@ impl ReferenceKernel {
         is_any
     }
 
-    /// The locked object is unlocked, and its Awake tasks are Ready: first those who didn't wait for room.
+    /// Unlocks the locked object, and makes its Awake tasks Ready: first those that didn't wait for room.
     fn unlock(&mut self, id: TaskId) {
         if let Some(object) = self.locked {
             self.locked = None;

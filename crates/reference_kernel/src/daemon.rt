@@ -3,7 +3,7 @@
 use super::{ReferenceKernel, Task, count_if};
 use model::{Access, App, Command, GroupId, Phase, TaskId, What};
 
-/// A command as an item of the daemon's queue: its mask, above that the group, and above that whether it clears.
+/// A command as an item of the daemon's queue: the mask in the low bits, above it the group, and above that whether it clears.
 fn item_of(command: Command) -> u32 {
     let kind = if command.clear { 16 } else { 0 };
     command.mask | (command.group.number as u32 + kind) << 24
@@ -19,7 +19,7 @@ impl ReferenceKernel {
         count_if(&mut self.tally.window_commands, has_room && is_locked);
     }
 
-    /// A handler's command goes to the daemon's queue, if there is room.
+    /// Sends a handler's command to the daemon's queue, if there is room.
     pub(super) fn send_command(&mut self, app: &App, command: Command) -> Option<u32> {
         let queue = app.commands().number;
         let answer = self.attempt(None, queue, Access::Send(item_of(command)));
@@ -29,8 +29,8 @@ impl ReferenceKernel {
 
     // ---- the next command
 
-    /// A command that is there is taken, which is no event: it is the daemon's last answer. Otherwise the daemon decides to wait
-    /// for one.
+    /// Takes a command if there is one, which is no event: it becomes the daemon's last answer. Otherwise the daemon decides to
+    /// wait for one.
     fn take_command(&mut self, app: &App, id: TaskId, queue: u8) {
         if self.is_possible(queue, Access::Receive) {
             let answer = self.fulfil(Some(id), queue, Access::Receive);
@@ -48,7 +48,7 @@ impl ReferenceKernel {
         }
     }
 
-    /// The daemon waits for its next command: the phases are those of a receive that waits for ever.
+    /// The daemon waits for its next command, in the phases of a receive that waits forever.
     pub(super) fn next_command(&mut self, app: &App, id: TaskId, queue: u8) {
         match self.task(id).call.phase {
             Phase::Start | Phase::Try => self.take_command(app, id, queue),
@@ -58,7 +58,7 @@ impl ReferenceKernel {
 
     // ---- doing it
 
-    /// The command is done, with this answer, and the next one is asked for.
+    /// Ends the command with this answer. The daemon then asks for the next one.
     fn end_command(&mut self, app: &App, id: TaskId, clear: bool, bits: u32) {
         self.write(What::Obeyed(id, clear, bits));
         let answer = Some(bits);
@@ -73,7 +73,7 @@ impl ReferenceKernel {
         );
     }
 
-    /// Bits are cleared. The answer is the bits that were set before.
+    /// Clears bits. The answer is the bits that were set before.
     fn clear_by_daemon(&mut self, app: &App, id: TaskId, group: GroupId, mask: u32) {
         let bits = self.bits(group);
         self.put(group, bits & !mask);
@@ -81,7 +81,7 @@ impl ReferenceKernel {
         self.end_command(app, id, true, bits);
     }
 
-    /// The hold ends in which bits were set. The answer is the bits of now.
+    /// Ends the hold in which bits were set. The answer is the present bits.
     fn end_set_by_daemon(&mut self, app: &App, id: TaskId, group: GroupId) {
         self.end_hold();
         count_if(&mut self.tally.sets_by_daemon, true);
@@ -89,7 +89,8 @@ impl ReferenceKernel {
         self.preempt();
     }
 
-    /// The daemon does the command that it has received, as a task does its op: bits are cleared in one step, and set in two.
+    /// The daemon carries out the command that it has received, as a task does its op. It clears bits in one step, and sets them in
+    /// two.
     pub(super) fn obey(&mut self, app: &App, id: TaskId) {
         let task = self.task(id);
         let command = Command::of_item(task.answer.unwrap_or(0));

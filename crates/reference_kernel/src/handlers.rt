@@ -3,8 +3,8 @@
 use super::{ReferenceKernel, count_if};
 use model::{Access, AnswerCondition, App, End, HandlerDefinition, HandlerId, IsrOp, What};
 
-/// The op at which a handler goes on after it has left the branch whose first op is this one: the op after its `else` or its `end`.
-/// Branches that open on the way are passed whole.
+/// The op at which a handler continues when it leaves the branch whose first op is this one: the op after its `else` or its `end`.
+/// Nested branches are skipped whole.
 fn behind_branch(ops: &[IsrOp], first: u16) -> u16 {
     let mut opened = 0_u16;
     for index in first..HandlerDefinition::MOST_OPS as u16 {
@@ -19,7 +19,7 @@ fn behind_branch(ops: &[IsrOp], first: u16) -> u16 {
 }
 
 impl ReferenceKernel {
-    /// A call of a handler is tried once, and never waits.
+    /// Tries a call of a handler once. It never waits.
     fn attempt_isr(&mut self, object: u8, access: Access<u32>) -> Option<u32> {
         let answer = self.attempt(None, object, access);
         let is_locked_give = access == Access::Give && self.locked == Some(object);
@@ -28,8 +28,8 @@ impl ReferenceKernel {
         answer
     }
 
-    /// An op of a handler, which reports its answer, if it has one. That becomes the handler's last answer; otherwise the one
-    /// before stays.
+    /// Does an op of a handler, and reports its answer if it has one. That becomes the handler's last answer; otherwise the
+    /// previous one stays.
     fn isr(
         &mut self,
         app: &App,
@@ -78,7 +78,7 @@ impl ReferenceKernel {
         !is_passed
     }
 
-    /// Whether the first branch of an `if` is done.
+    /// Whether the first branch of an `if` is taken.
     fn is_taken(&mut self, condition: AnswerCondition, last: Option<u32>) -> bool {
         let is_taken = self.is_so(condition, last);
         self.count_isr_condition(condition);
@@ -87,7 +87,7 @@ impl ReferenceKernel {
         is_taken
     }
 
-    /// The index of the op that is next behind that of this index.
+    /// The index of the op that runs after the one at this index.
     fn next_op(&mut self, ops: &[IsrOp], op_index: u16, op: &IsrOp, last: Option<u32>) -> u16 {
         let behind = op_index.wrapping_add(1);
         match *op {
@@ -97,7 +97,7 @@ impl ReferenceKernel {
         }
     }
 
-    /// The handler does its ops one after another, and nothing switches. What is behind an `expect` that fails isn't done.
+    /// The handler does its ops one after another, and nothing switches. Ops after a failed `expect` are not done.
     pub(super) fn handle(&mut self, app: &App, handler: HandlerId) {
         let Some(definition) = app.handlers().get(handler.number as usize) else {
             return;
@@ -119,7 +119,7 @@ impl ReferenceKernel {
         }
     }
 
-    /// The base interrupts of this tick come, whether they are armed or not.
+    /// The base interrupts of this tick come, whether or not they are armed.
     fn come_by_file(&mut self, app: &App) {
         for interrupt in app.interrupts() {
             if interrupt.tick as u64 == self.elapsed {
@@ -139,7 +139,8 @@ impl ReferenceKernel {
         self.come_raised(app, raised);
     }
 
-    /// The interrupt comes before a step: the tick; or a handler, after which a task of higher priority runs, if there is one.
+    /// The interrupt comes before a step. It is the tick, or a handler. After a handler, a task of higher priority runs if there is
+    /// one.
     pub(super) fn serve(&mut self, app: &App, source: HandlerId) {
         if app.is_tick(source) {
             count_if(&mut self.tally.injected_ticks, true);

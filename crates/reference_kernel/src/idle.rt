@@ -1,10 +1,10 @@
-//! Idle: a tick in a step, or all up to the next thing to happen.
+//! Idle: each step is one tick, or in a tickless application all ticks up to the next event.
 
 use super::{ReferenceKernel, count_if};
 use model::{App, Limits, TaskId};
 
 impl ReferenceKernel {
-    /// How many ticks it is until the first task wakes by itself; no end of them where none does.
+    /// The number of ticks until the first task wakes by itself; `u64::MAX` if no task does.
     fn ticks_to_wake(&self) -> u64 {
         let mut least = u64::MAX;
         for number in 0..32 {
@@ -15,7 +15,7 @@ impl ReferenceKernel {
         least
     }
 
-    /// How many it is until the first base interrupt that is still to come; no end of them where none is.
+    /// The number of ticks until the next base interrupt; `u64::MAX` if none is left.
     fn ticks_to_interrupt(&self, app: &App) -> u64 {
         let mut least = u64::MAX;
         for interrupt in app.interrupts() {
@@ -47,7 +47,7 @@ impl ReferenceKernel {
         count_if(&mut self.tally.jumps_to_raised, ticks > 1 && is_to_raised);
     }
 
-    /// All the ticks pass that come before anything happens, but none past the limit; one at least. The scheduler isn't suspended.
+    /// Advances by all ticks up to the next event, but not past the limit, and by at least one. The scheduler isn't suspended.
     fn jump(&mut self, app: &App, limits: &Limits) {
         let most = limits.ticks.saturating_sub(self.elapsed);
         let ticks = most

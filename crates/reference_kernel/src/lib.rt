@@ -1,5 +1,5 @@
-//! The reference kernel: the kernel as its definitions describe it, with one table of tasks, each with its ticket, and one of
-//! objects. Every question is a search of the tables. It is slow, and says plainly what the kernel over lists has to do.
+//! The reference kernel: the kernel as its definitions describe it. It has a table of tasks, each with its ticket, and a table of
+//! objects. Every query is a search of these tables. It is slow, but it states plainly what the list-based kernel must do.
 #![tactic(auto)]
 
 use calls::Side;
@@ -32,7 +32,7 @@ mod waits_for_bits;
 
 pub use tally::Tally;
 
-/// A wait that has begun: at which side of which object, with the priority that the task had then.
+/// A wait in progress: its object and side, and the priority that the task had when the wait began.
 #[derive(Clone, Copy)]
 struct Wait {
     object: u8,
@@ -46,9 +46,9 @@ struct Wait {
 enum Status {
     /// In the ready list, with this ticket.
     Ready(u64),
-    /// Woken from this wait through the locked object, and Ready when that is unlocked.
+    /// Woken from this wait while the object is locked. It becomes Ready when the object is unlocked.
     Awake(Wait),
-    /// By `delay_until`, which is periodic, or by `delay`.
+    /// Sleeping, by `delay_until` (periodic) or by `delay`.
     Asleep {
         wake_time: u64,
         ticket: u64,
@@ -57,21 +57,21 @@ enum Status {
     Waiting(Wait),
     WaitingForBits(BitWait),
     WaitingForNotification(NoticeWait),
-    /// In no list. If a `delay_until` was cut off, this is the time until which it would have slept.
+    /// In no list. If a `delay_until` was cut off, this is the time until which the task would have slept.
     Suspended(Option<u64>),
     Ended,
 }
 
-/// How far a call that may wait has come.
+/// The progress of a call that may wait.
 #[derive(Clone, Copy, Default)]
 struct Call {
     phase: Phase,
     deadline: Option<u64>,
-    /// Whether its last Decide began a wait.
+    /// Whether its last Decide phase began a wait.
     has_waited: bool,
-    /// Whether its last wait was for a mutex of another task, which had a lower base priority.
+    /// Whether its last wait was for a mutex held by another task of lower base priority.
     has_inherited: bool,
-    /// The bits with which a set has ended its wait.
+    /// The bits with which a set ended its wait.
     kept: Option<u32>,
 }
 
@@ -107,13 +107,13 @@ pub struct ReferenceKernel {
     current: Option<TaskId>,
     /// Whether a call holds the scheduler.
     is_held: bool,
-    /// How many `suspend_all` are active, and how many ticks have come since the first of them.
+    /// The number of active `suspend_all`, and the ticks that have come since the first of them.
     suspensions: u32,
     held_ticks: u32,
-    /// How many critical sections are open, and which handlers were injected meanwhile and haven't come yet.
+    /// The number of open critical sections, and the interrupts that were injected meanwhile and are still pending.
     sections: u32,
     pending: [bool; 17],
-    /// What else is kept of each interrupt source: the handlers, and after them the tick.
+    /// The rest of the state of each interrupt source: the handlers, and after them the tick.
     sources: [Source; 17],
     /// The object that a call has locked.
     locked: Option<u8>,
@@ -195,7 +195,7 @@ impl ReferenceKernel {
         self.is_out_of_memory |= self.events.push(event).is_err();
     }
 
-    /// The task, which is now as given, goes on at this op.
+    /// Stores the task's new state. The task continues at this op.
     fn go_to(&mut self, app: &App, id: TaskId, op_index: u16, task: Task) {
         let is_past = op_index as usize == app.op_count(id);
         let status = if is_past { Status::Ended } else { task.status };
@@ -234,7 +234,7 @@ impl ReferenceKernel {
         );
     }
 
-    /// A check fails. The first one that does in a step ends the run after it.
+    /// A check fails. The first failed check of a step ends the run after that step.
     fn fail(&mut self, check: End) {
         let is_later = self.stopped.is_some();
         count_if(&mut self.tally.later_failures, is_later);
@@ -319,7 +319,7 @@ impl ReferenceKernel {
         }
     }
 
-    /// A step of a run under these limits, before which the handlers of these injections come.
+    /// Does one step of a run with these limits. The interrupts of these injections come before it.
     pub fn step(&mut self, app: &App, limits: &Limits, injections: &[Injection]) {
         self.come_before_step(app, injections);
         self.act_current(app, limits);
@@ -341,7 +341,7 @@ impl ReferenceKernel {
         }
     }
 
-    /// Whether all tasks for whose ends the run waits have come to the end of their scripts. If there is none, no run passes.
+    /// Whether every task that the run waits for has reached the end of its script. If there is no such task, no run passes.
     fn are_all_ended(&self, app: &App) -> bool {
         let mut is_any_awaited = false;
         for number in 0..32 {
@@ -355,7 +355,7 @@ impl ReferenceKernel {
         is_any_awaited
     }
 
-    /// Whether an endless task of the file has not come to its end.
+    /// Whether an endless task of the file has not reached its end.
     pub fn is_any_endless_left(&self, app: &App) -> bool {
         for number in 0..32 {
             let task = TaskId { number };
@@ -384,7 +384,7 @@ impl ReferenceKernel {
         self.current.is_none() && !self.will_any_wake() && !self.is_interrupt_to_come(app)
     }
 
-    /// The end of the run before its next step; `None` if it goes on.
+    /// Returns how the run ends before its next step, or `None` if it continues.
     pub fn end(&self, app: &App, limits: &Limits) -> Option<End> {
         if self.stopped.is_some() {
             self.stopped

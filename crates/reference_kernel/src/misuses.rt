@@ -3,7 +3,7 @@
 use super::{ReferenceKernel, Status, count_if};
 use model::{App, End, Misuse, Op, TaskId};
 
-/// Whether an op may be done while the scheduler is suspended: it wakes nobody, waits for nothing and gives way to nobody.
+/// Whether an op is allowed while the scheduler is suspended: it wakes no task, doesn't wait and doesn't yield.
 fn may_be_held(op: Op) -> bool {
     matches!(
         op,
@@ -33,8 +33,8 @@ fn may_be_held(op: Op) -> bool {
     )
 }
 
-/// Whether an op may be done while a critical section is open: it may be done while the scheduler is suspended, lets no tick pass,
-/// and leaves the scheduler alone.
+/// Whether an op is allowed in a critical section. It must be allowed while the scheduler is suspended, let no tick pass, and
+/// neither suspend nor resume the scheduler.
 fn may_be_critical(op: Op) -> bool {
     may_be_held(op) && !matches!(op, Op::Work(_) | Op::SuspendAll | Op::ResumeAll)
 }
@@ -48,7 +48,7 @@ impl ReferenceKernel {
         }
     }
 
-    /// The misuse that the op of the running task is, if it is one: the first of its kinds.
+    /// The misuse by the running task's op, if there is one. If several apply, the first is returned.
     fn misuse(&self, app: &App, id: TaskId) -> Option<Misuse> {
         let op = app.op(id, self.task(id).op_index)?;
         let is_suspended = self.is_scheduler_suspended();
@@ -83,13 +83,13 @@ impl ReferenceKernel {
         count_if(count, true);
     }
 
-    /// The run ends with a misuse by the op of this index.
+    /// Ends the run with a misuse by the op at this index.
     fn stop(&mut self, id: TaskId, op_index: u16, misuse: Misuse) {
         self.stopped = Some(End::Misuse(id, op_index, misuse));
         self.count_misuse(misuse);
     }
 
-    /// A task must not come to its end while the scheduler is suspended or a critical section is open.
+    /// A task must not reach its end while the scheduler is suspended or a critical section is open.
     fn stop_at_end(&mut self, id: TaskId, op_index: u16) {
         let task = self.task(id);
         let is_ended = matches!(task.status, Status::Ended);
@@ -100,7 +100,7 @@ impl ReferenceKernel {
         }
     }
 
-    /// The running task does its op, or ends the run by a misuse. If the op has no value to work with, it is a failed check.
+    /// The running task does its op, or ends the run with a misuse. If the op has no value to work with, it is a failed check.
     pub(super) fn act_unless_misuse(&mut self, app: &App, id: TaskId, op: Op) {
         let op_index = self.task(id).op_index;
         match self.misuse(app, id) {

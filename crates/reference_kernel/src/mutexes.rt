@@ -1,4 +1,4 @@
-//! Mutexes: who holds them, and the priorities that their holders inherit.
+//! Mutexes: their holders, and the priorities that holders inherit.
 
 use super::calls::Side;
 use super::shared::Object;
@@ -6,7 +6,7 @@ use super::{Call, ReferenceKernel, Task, count_if};
 use model::{App, TaskId};
 
 impl Object {
-    /// Who holds it; nobody where it is free, or no mutex.
+    /// The holder; `None` if the mutex is free or the object isn't a mutex.
     fn holder(&self) -> Option<TaskId> {
         match self {
             Object::Mutex(holder) => *holder,
@@ -27,7 +27,7 @@ impl ReferenceKernel {
             .count()
     }
 
-    /// The task has this priority from now on. One that is Ready goes behind its new equals, if that is a change.
+    /// Sets the task's priority. If that is a change, a Ready task moves after its new equals.
     fn set_priority(&mut self, id: TaskId, priority: u8) {
         let task = self.task(id);
         if task.priority != priority {
@@ -36,8 +36,8 @@ impl ReferenceKernel {
         }
     }
 
-    /// The task is about to wait for an object. If that is a mutex, its holder has the task's priority from now on where its
-    /// own is lower. Whoever the holder waits for is left alone.
+    /// The task is about to wait for an object. If that is a mutex and its holder has a lower priority, the holder gets the task's
+    /// priority. The raise isn't propagated further.
     pub(super) fn raise_holder(&mut self, id: TaskId, object: u8) {
         let Some(holder) = self.holder_of(object) else {
             return;
@@ -59,7 +59,7 @@ impl ReferenceKernel {
         }
     }
 
-    /// The priority of the best who waits for a mutex, as it was when that wait began; 0 where nobody waits.
+    /// The priority of the best waiter for a mutex, as it was when its wait began; 0 if no task waits.
     fn best_priority(&self, mutex: u8) -> u8 {
         let Some(best) = self.best_of(mutex, Side::Receivers, false) else {
             return 0;
@@ -67,8 +67,8 @@ impl ReferenceKernel {
         self.wait_of(best, false).map_or(0, |wait| wait.priority)
     }
 
-    /// The task's call fails. If it was for a mutex and its last wait inherited, the mutex's holder, if it holds no other,
-    /// falls to its base priority, or to that of the best who still waits for the mutex.
+    /// The task's call fails. If it was for a mutex and its last wait inherited, the holder's priority may fall. It falls if the
+    /// holder holds no other mutex: to its base priority, or to that of the best remaining waiter if that is higher.
     pub(super) fn let_holder_fall(&mut self, id: TaskId, object: u8) {
         let Some(holder) = self.holder_of(object) else {
             return;
@@ -85,7 +85,7 @@ impl ReferenceKernel {
         count_if(&mut self.tally.partial_falls, falls_partly);
     }
 
-    /// `unlock`: the task gives a mutex back that it holds. With its last one it has its base priority again.
+    /// `unlock`: the task gives back a mutex that it holds. When it gives back its last one, it returns to its base priority.
     pub(super) fn give_back(&mut self, app: &App, id: TaskId, mutex: u8) {
         if let Some(object) = self.objects.get_mut(mutex as usize) {
             *object = Object::Mutex(None);

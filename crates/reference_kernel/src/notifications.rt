@@ -1,4 +1,4 @@
-//! Notifications: each task has a value, and one is pending or not.
+//! Notifications: each task has a value, and a notification is pending or not.
 
 use super::{ReferenceKernel, Status, Task, count_if};
 use model::{
@@ -12,14 +12,14 @@ pub(super) struct Notice {
     is_pending: bool,
 }
 
-/// A wait for a notification that has begun.
+/// A wait for a notification that is in progress.
 #[derive(Clone, Copy)]
 pub(super) struct NoticeWait {
     pub(super) deadline: Option<u64>,
     pub(super) ticket: u64,
 }
 
-/// The value that a notify brings, if it brings one.
+/// The value that a notify sends, if it sends one.
 fn value_of(action: NotifyAction<Value>) -> Option<Value> {
     match action {
         NotifyAction::SetBits(value) | NotifyAction::Overwrite(value) | NotifyAction::Keep(value) =>
@@ -28,7 +28,7 @@ fn value_of(action: NotifyAction<Value>) -> Option<Value> {
     }
 }
 
-/// Whether a notify brings the last answer, and that is `none`.
+/// Whether a notify sends the last answer, and that is `none`.
 pub(super) fn lacks_notice(action: NotifyAction<Value>, last: Option<u32>) -> bool {
     value_of(action) == Some(Value::Answer) && last.is_none()
 }
@@ -44,7 +44,7 @@ impl ReferenceKernel {
 
     // ---- notify
 
-    /// Counts a notify of this task, by what the task is in.
+    /// Counts a notify of this task, by the state of the task.
     fn count_notify(&mut self, id: TaskId, action: NotifyAction<Value>) {
         let task = self.task(id);
         let notice = self.notice(id);
@@ -99,7 +99,7 @@ impl ReferenceKernel {
         !is_refused as u32
     }
 
-    /// `notify` of a task, perhaps of the one that calls it.
+    /// `notify` of a task, which may be the caller itself.
     pub(super) fn call_notify(
         &mut self,
         app: &App,
@@ -114,7 +114,7 @@ impl ReferenceKernel {
 
     // ---- take and wait
 
-    /// `notify_take` at its end: it answers the value, of which one or all is taken.
+    /// The end of `notify_take`: it returns the value, and takes one or all of it.
     fn end_take(&mut self, app: &App, id: TaskId, clears: bool) {
         let value = self.notice(id).value;
         let left = if clears || value == 0 {
@@ -134,8 +134,8 @@ impl ReferenceKernel {
         self.answer(app, id, Some(value));
     }
 
-    /// `notify_wait` at its end: it returns the value of a pending notification, and then clears bits of it. Otherwise it returns
-    /// `none`.
+    /// The end of `notify_wait`. If a notification is pending, it returns the value, and then clears bits of it. Otherwise it
+    /// returns `none`.
     fn end_wait_for_pending(&mut self, app: &App, id: TaskId, masks: NotificationMasks) {
         let notice = self.notice(id);
         if !notice.is_pending {
@@ -176,7 +176,7 @@ impl ReferenceKernel {
         self.set_notice(id, Notice { value, ..notice });
     }
 
-    /// Whether the task has that for which it waits.
+    /// Whether the task already has what it waits for.
     fn has_notice(&self, id: TaskId, wait: NotificationWait) -> bool {
         let notice = self.notice(id);
         match wait {
@@ -231,7 +231,7 @@ impl ReferenceKernel {
 
     // ---- clear
 
-    /// `notify_clear` and `notify_value_clear`: what they answer is what was there before.
+    /// `notify_clear` and `notify_value_clear`. They return what was there before.
     pub(super) fn clear_notice(&mut self, app: &App, id: TaskId, what: NotificationClear) {
         let old = self.notice(id);
         let (answer, new) = match what {

@@ -1,4 +1,4 @@
-//! Which task runs: the Ready tasks, the choice among them, and when it is made.
+//! Which task runs: the Ready tasks, the choice among them, and when the choice is made.
 
 use super::{ReferenceKernel, Status, Task, count_if};
 use model::{App, TaskId, What};
@@ -72,7 +72,7 @@ impl ReferenceKernel {
         }
     }
 
-    /// Whether another task than the running one is Ready and has at least this priority.
+    /// Whether a Ready task other than the running one has at least this priority.
     fn is_any_ready_from(&self, priority: u8) -> bool {
         for number in 0..32 {
             let other = TaskId { number };
@@ -86,7 +86,7 @@ impl ReferenceKernel {
         false
     }
 
-    /// The priority of the running task; of idle it is below all others, which count from 1 here.
+    /// The priority of the running task, counted from 1. Idle is below all tasks.
     fn rank(&self) -> u8 {
         match self.current {
             None => 0,
@@ -94,14 +94,14 @@ impl ReferenceKernel {
         }
     }
 
-    /// The task goes after the others of its priority, if it is Ready.
+    /// Moves the task after the others of its priority, if it is Ready.
     pub(super) fn to_back(&mut self, id: TaskId) {
         if self.is_ready(id) {
             self.make_ready(id);
         }
     }
 
-    /// The running task goes after the others of its priority, and the choice runs.
+    /// Moves the running task after the others of its priority, and the choice runs.
     pub(super) fn yield_now(&mut self) {
         if let Some(task) = self.current {
             self.to_back(task);

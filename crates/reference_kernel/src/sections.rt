@@ -24,7 +24,7 @@ impl ReferenceKernel {
         self.complete(app, id, self.task(id));
     }
 
-    /// An interrupt that is injected while a critical section is open is pending from then on, once, if it can come.
+    /// An interrupt is injected while a critical section is open. If it can come, it becomes pending, at most once.
     fn pend(&mut self, app: &App, source: HandlerId) {
         if !self.may_inject(source) {
             return;
@@ -48,7 +48,7 @@ impl ReferenceKernel {
         count_if(&mut self.tally.served_in_holds, served > 0 && is_suspended);
     }
 
-    /// All that are pending come: the handlers in the order of the file, and then the tick.
+    /// All pending interrupts come: the handlers in the order of the file, and then the tick.
     fn serve_pending(&mut self, app: &App) {
         self.count_served();
         let pending = self.pending;
@@ -63,8 +63,8 @@ impl ReferenceKernel {
         }
     }
 
-    /// Before a step the interrupts of these injections become pending if a critical section is open; otherwise those that are
-    /// pending come, and then these.
+    /// The interrupts before a step. If a critical section is open, the injected interrupts become pending. Otherwise the pending
+    /// interrupts come first, and then the injected ones.
     pub(super) fn come_before_step(&mut self, app: &App, injections: &[Injection]) {
         if self.is_critical() {
             for injection in injections {

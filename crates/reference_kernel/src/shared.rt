@@ -93,7 +93,7 @@ impl Object {
         }
     }
 
-    /// What a possible call of a task or (none) of a handler does. It answers as the call.
+    /// Carries out a possible call. `caller` is `None` for a handler. Returns what the call returns.
     pub(super) fn act(
         &mut self,
         caller: Option<TaskId>,
@@ -113,7 +113,7 @@ impl Object {
     }
 }
 
-/// A number of items as one that a call answers.
+/// A number of items as the result of a call.
 fn number_of(items: usize) -> u32 {
     u32::try_from(items).unwrap_or(u32::MAX)
 }
@@ -126,7 +126,7 @@ impl ReferenceKernel {
         }
     }
 
-    /// How many items a queue has, and for how many more it has room.
+    /// The number of items in a queue, and the room that is left.
     pub(super) fn fill(&self, object: u8) -> (u32, u32) {
         let Some(Object::Queue(queue)) = self.objects.get(object as usize) else {
             return (0, 0);

@@ -1,14 +1,14 @@
-//! Which interrupts can come, and devices, whose handlers come some time after they were raised.
+//! Interrupts that can come, and devices. A device's handler comes some time after it is raised.
 
 use super::{ReferenceKernel, count_if};
 use model::{App, HandlerId, SourceOp, TaskId};
 
-/// What is kept of an interrupt source beside whether it is pending.
+/// The state of an interrupt source, except for whether it is pending.
 #[derive(Clone, Copy)]
 pub(super) struct Source {
-    /// Whether it can come where it is injected.
+    /// Whether it can come if it is injected.
     is_armed: bool,
-    /// The elapsed tick from which on it can.
+    /// The elapsed tick from which it can come.
     free_from: u64,
     /// The elapsed tick at which it comes by itself, if it is raised.
     raised: Option<u64>,
@@ -49,7 +49,7 @@ impl ReferenceKernel {
         self.is_armed(source) && self.source(source).free_from <= self.elapsed
     }
 
-    /// The same, and it is counted where it can't.
+    /// Whether an injected interrupt can come. If it can't, that is counted.
     pub(super) fn may_inject(&mut self, source: HandlerId) -> bool {
         let can_come = self.can_come(source);
         let is_armed = self.is_armed(source);
@@ -65,7 +65,7 @@ impl ReferenceKernel {
         }
     }
 
-    /// The interrupt comes at this tick, so that for some ticks it can't be injected.
+    /// The interrupt comes at this tick. It can't be injected again for some ticks.
     pub(super) fn note_coming(&mut self, app: &App, source: HandlerId) {
         let apart = match app.handlers().get(source.number as usize) {
             None => 0,
@@ -89,7 +89,7 @@ impl ReferenceKernel {
 
     // ---- devices
 
-    /// Which handlers come by themselves at this tick, since they were raised for it. They are raised no more.
+    /// The handlers that come by themselves at this tick because they were raised for it. They are no longer raised.
     pub(super) fn lower_due(&mut self, app: &App) -> [bool; 17] {
         let mut due = [false; 17];
         let mut count = 0_u32;
@@ -113,7 +113,7 @@ impl ReferenceKernel {
         due
     }
 
-    /// These handlers come, in the order of the file, whether they are armed or not.
+    /// These handlers come, in the order of the file, whether or not they are armed.
     pub(super) fn come_raised(&mut self, app: &App, due: [bool; 17]) {
         for number in 0..17_u8 {
             if due[number as usize] {
@@ -128,12 +128,12 @@ impl ReferenceKernel {
         }
     }
 
-    /// Whether some handler is raised.
+    /// Whether any handler is raised.
     pub(super) fn is_any_raised(&self) -> bool {
         self.sources.iter().any(|source| source.raised.is_some())
     }
 
-    /// How many ticks it is until the first raised handler comes; no end of them where none is raised.
+    /// The number of ticks until the first raised handler comes; `u64::MAX` if none is raised.
     pub(super) fn ticks_to_raised(&self) -> u64 {
         let mut least = u64::MAX;
         for source in self.sources.iter() {
@@ -166,7 +166,7 @@ impl ReferenceKernel {
         );
     }
 
-    /// A handler is armed or disarmed, raised, or raised no more.
+    /// Arms, disarms, raises or cancels a handler.
     fn do_to_source(&mut self, handler: HandlerId, what: SourceOp) {
         let is_raised = self.source(handler).raised.is_some();
         match what {

@@ -1,4 +1,4 @@
-//! Tasks that are suspended and resumed, and the scheduler.
+//! Suspending and resuming tasks and the scheduler.
 
 use super::{ReferenceKernel, Status, count_if};
 use model::{App, Phase, TaskId};
@@ -6,7 +6,7 @@ use model::{App, Phase, TaskId};
 impl ReferenceKernel {
     // ---- tasks
 
-    /// Whether a suspend of the task does something.
+    /// Whether suspending the task has an effect.
     fn can_suspend(&self, id: TaskId) -> bool {
         !matches!(self.task(id).status, Status::Suspended(_) | Status::Ended)
     }
@@ -24,7 +24,7 @@ impl ReferenceKernel {
         count_if(&mut self.tally.suspended_answers, has_answer);
     }
 
-    /// The task is suspended, whatever it is in. A call that was to decide will try again.
+    /// Suspends the task, whatever its state. If its call was about to decide, it will try again.
     fn suspend(&mut self, id: TaskId) {
         self.count_suspend(id);
         let mut task = self.task(id);
@@ -51,8 +51,8 @@ impl ReferenceKernel {
         count_if(&mut self.tally.cut_off_sleeps, is_early);
     }
 
-    /// A task that is suspended is Ready, however often it was suspended. Where the sleep of a `delay_until` was cut off and
-    /// would not be over yet, the next one counts from now. It answers whether the task was suspended.
+    /// Makes a suspended task Ready, however often it was suspended. If the sleep of a `delay_until` was cut off and would not be
+    /// over yet, the next one counts from now. Returns whether the task was suspended.
     pub(super) fn resume(&mut self, id: TaskId) -> bool {
         let mut task = self.task(id);
         let Status::Suspended(cut_off) = task.status else {
@@ -68,7 +68,7 @@ impl ReferenceKernel {
         true
     }
 
-    /// `suspend`. Who suspends itself by its last op has come to its end, and isn't suspended.
+    /// `suspend`. A task that suspends itself with its last op has reached its end, and isn't suspended.
     pub(super) fn call_suspend(&mut self, app: &App, id: TaskId, other: TaskId) {
         let does = self.can_suspend(other);
         self.answer(app, id, Some(does as u32));
@@ -85,7 +85,7 @@ impl ReferenceKernel {
         self.preempt();
     }
 
-    /// Whether the running task decides next whether it waits, and one of higher priority is suspended.
+    /// Whether the running task is about to decide whether it waits, while a task of higher priority is suspended.
     pub fn has_suspended_above_decision(&self) -> bool {
         let Some(current) = self.current else {
             return false;
@@ -102,7 +102,7 @@ impl ReferenceKernel {
 
     // ---- the scheduler
 
-    /// Whether a `suspend_all` is in force.
+    /// Whether a `suspend_all` is active.
     pub fn is_scheduler_suspended(&self) -> bool {
         self.suspensions > 0
     }
@@ -115,7 +115,7 @@ impl ReferenceKernel {
         count_if(&mut self.tally.ticks_in_calls, !is_suspended);
     }
 
-    /// The ticks that were held come, one by one.
+    /// The held ticks come, one by one.
     fn release(&mut self) {
         for _ in 0..self.held_ticks {
             self.advance();
@@ -123,7 +123,7 @@ impl ReferenceKernel {
         self.held_ticks = 0;
     }
 
-    /// A call lets go of the scheduler.
+    /// A call releases the scheduler.
     pub(super) fn end_hold(&mut self) {
         self.is_held = false;
         self.release();
@@ -135,8 +135,8 @@ impl ReferenceKernel {
         self.answer(app, id, Some(0));
     }
 
-    /// `resume_all`. After the last one the ticks that were held come, one by one, and then a task of higher priority runs,
-    /// if there is one; equals take no turns.
+    /// `resume_all`. After the last one, the held ticks come one by one. Then a task of higher priority runs, if there is one.
+    /// Tasks of equal priority don't take turns.
     pub(super) fn resume_all(&mut self, app: &App, id: TaskId) {
         self.suspensions = self.suspensions.wrapping_sub(1);
         if self.suspensions > 0 {

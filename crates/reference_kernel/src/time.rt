@@ -9,7 +9,7 @@ impl ReferenceKernel {
         (self.time % 4_294_967_296) as u32
     }
 
-    /// When a task wakes by itself, if it does, and its ticket.
+    /// When a task wakes by itself, and its ticket; `None` if it doesn't.
     pub(super) fn alarm(&self, task: TaskId) -> Option<(u64, u64)> {
         match self.task(task).status {
             Status::Asleep {
@@ -24,7 +24,7 @@ impl ReferenceKernel {
         }
     }
 
-    /// Of the tasks that wake now, the one whose sleep or wait began first.
+    /// The task that is due now and whose sleep or wait began first.
     fn first_due(&self) -> Option<TaskId> {
         let mut best = None;
         for number in 0..32 {
@@ -52,7 +52,7 @@ impl ReferenceKernel {
         count_if(&mut self.tally.notice_timeouts, is_notice_timeout);
     }
 
-    /// All due tasks wake.
+    /// Wakes all due tasks.
     pub(super) fn wake_due(&mut self) {
         for _ in 0..32 {
             let Some(task) = self.first_due() else {
@@ -63,7 +63,7 @@ impl ReferenceKernel {
         }
     }
 
-    /// Whether some task wakes by itself.
+    /// Whether any task wakes by itself.
     pub(super) fn will_any_wake(&self) -> bool {
         for number in 0..32 {
             if self.alarm(TaskId { number }).is_some() {
@@ -73,14 +73,14 @@ impl ReferenceKernel {
         false
     }
 
-    /// Time advances by a tick, and all due tasks wake.
+    /// Advances time by a tick, and wakes all due tasks.
     pub(super) fn advance(&mut self) {
         self.time = self.time.wrapping_add(1);
         self.wake_due();
     }
 
-    /// The tick interrupt: time advances, or the tick is held; the base interrupts of this tick come; and then there is one
-    /// switch for all of it, if there may be one.
+    /// The tick interrupt. Time advances, or the tick is held. Then the base interrupts of this tick come. At the end there is one
+    /// switch, if it is allowed.
     pub(super) fn tick(&mut self, app: &App) {
         self.elapsed = self.elapsed.wrapping_add(1);
         if self.is_held || self.is_scheduler_suspended() {
@@ -91,7 +91,7 @@ impl ReferenceKernel {
         self.end_tick(app);
     }
 
-    /// The base interrupts of this tick come, and then there is one switch, if there may be one.
+    /// The base interrupts of this tick come, and then there is one switch, if it is allowed.
     pub(super) fn end_tick(&mut self, app: &App) {
         self.interrupt(app);
         if self.may_switch() {

@@ -54,7 +54,7 @@ impl ReferenceKernel {
         self.variables.get(..app.variables().len()).unwrap_or(&[])
     }
 
-    /// The variables have their initial values.
+    /// Sets the variables to their initial values.
     pub(super) fn reset_variables(&mut self, app: &App) {
         for (cell, initial) in self.variables.iter_mut().zip(app.variables()) {
             *cell = *initial;
@@ -68,7 +68,7 @@ impl ReferenceKernel {
             .unwrap_or(0)
     }
 
-    /// The number that a value is after this last answer; `None` if it is the last answer and that is `none`.
+    /// The number of a value, given this last answer; `None` if the value is the last answer and that is `none`.
     fn number(&self, value: Value, last: Option<u32>) -> Option<u32> {
         match value {
             Value::Number(number) => Some(number),
@@ -77,7 +77,7 @@ impl ReferenceKernel {
         }
     }
 
-    /// The same of a value that is marked or sent, which there is then.
+    /// The number of a value that is marked or sent. It exists then.
     pub(super) fn shown(&self, value: Value, last: Option<u32>) -> u32 {
         self.number(value, last).unwrap_or(0)
     }
@@ -106,7 +106,7 @@ impl ReferenceKernel {
         }
     }
 
-    /// Whether a condition holds after this last answer.
+    /// Whether a condition holds, given this last answer.
     pub(super) fn is_so(&self, condition: AnswerCondition, last: Option<u32>) -> bool {
         match condition {
             AnswerCondition::Is(wanted) => self.is_equal(wanted, last),
@@ -134,7 +134,7 @@ impl ReferenceKernel {
 
     // ---- ops on values
 
-    /// The outcome of an op on values after this last answer; `None` if it has no value to work with.
+    /// The outcome of an op on values, given this last answer; `None` if the op has no value to work with.
     pub(super) fn outcome(&self, op: ValueOp, last: Option<u32>) -> Option<u32> {
         match op {
             ValueOp::Load(variable) => Some(self.variable(variable)),
@@ -143,7 +143,7 @@ impl ReferenceKernel {
         }
     }
 
-    /// An op on values has this outcome, which a `store` keeps.
+    /// Keeps the outcome of an op on values in the variable, if the op is a `store`.
     pub(super) fn keep(&mut self, op: ValueOp, outcome: Option<u32>) {
         let (ValueOp::Store(variable, _), Some(number)) = (op, outcome) else {
             return;
@@ -170,7 +170,7 @@ impl ReferenceKernel {
         self.answer(app, id, outcome);
     }
 
-    /// A handler does.
+    /// The same op, done by a handler.
     pub(super) fn isr_values(&mut self, op: ValueOp, last: Option<u32>) -> Option<u32> {
         let outcome = self.outcome(op, last);
         let stores = matches!(op, ValueOp::Store(_, _));
@@ -186,7 +186,7 @@ impl ReferenceKernel {
         sends_answer(access) && last.is_none()
     }
 
-    /// Counts a division that can't be done, unless it is for want of a last answer.
+    /// Counts a division that can't be done, unless the reason is a missing last answer.
     fn count_divisor(&mut self, app: &App, id: TaskId) {
         let task = self.task(id);
         let op = app.op(id, task.op_index);
@@ -195,7 +195,7 @@ impl ReferenceKernel {
         count_if(&mut self.tally.zero_divisors, is_divided);
     }
 
-    /// Whether an op of a task has no value to work with. For a call that waits, this is judged at its start.
+    /// Whether an op of a task has no value to work with. For a call that waits, this is checked at its start.
     fn lacks_value(&self, task: &Task, op: Op) -> bool {
         match op {
             Op::Await(_, access, _) => {
@@ -209,7 +209,7 @@ impl ReferenceKernel {
         }
     }
 
-    /// Whether the op that a task is about to do has no value.
+    /// Whether the next op of a task has no value to work with.
     pub(super) fn is_without_value(&mut self, app: &App, id: TaskId) -> bool {
         let task = self.task(id);
         let Some(op) = app.op(id, task.op_index) else {
@@ -223,7 +223,7 @@ impl ReferenceKernel {
         is_missing
     }
 
-    /// Whether an op of a handler has no value.
+    /// Whether an op of a handler has no value to work with.
     pub(super) fn is_isr_without_value(&mut self, op: &IsrOp, last: Option<u32>) -> bool {
         let is_missing = match *op {
             IsrOp::Do(_, access) => Self::lacks_item(access, last),
@@ -236,9 +236,9 @@ impl ReferenceKernel {
         is_missing
     }
 
-    // ---- what is passed on
+    // ---- values that are passed on
 
-    /// Counts a call of a task that puts into a queue, now, what the task has received or calculated.
+    /// Counts a call of a task that now sends a value to a queue that the task has received or calculated.
     pub(super) fn count_passed_on(&mut self, id: TaskId, object: u8, access: Access<Value>) {
         let task = self.task(id);
         let is_sent = sends_answer(access)
@@ -248,7 +248,7 @@ impl ReferenceKernel {
         count_if(&mut self.tally.passed_on, is_sent && task.has_received);
     }
 
-    /// Counts one of a handler.
+    /// Counts such a call of a handler.
     pub(super) fn count_isr_sent(&mut self, object: u8, access: Access<Value>, last: Option<u32>) {
         let is_sent = sends_answer(access) && self.is_possible(object, self.asked(access, last));
         count_if(&mut self.tally.answers_sent_by_handlers, is_sent);

@@ -3,7 +3,7 @@
 use super::{Call, ReferenceKernel, Status, Task, count_if};
 use model::{App, Condition, GroupId, Phase, TaskId};
 
-/// A wait for bits of a group that has begun.
+/// A wait for bits of a group that is in progress.
 #[derive(Clone, Copy)]
 pub(super) struct BitWait {
     group: GroupId,
@@ -12,7 +12,7 @@ pub(super) struct BitWait {
     pub(super) ticket: u64,
 }
 
-/// Whether these bits are what a condition asks for.
+/// Whether these bits meet a condition.
 fn is_met(bits: u32, condition: Condition) -> bool {
     let found = bits & condition.mask;
     if condition.all {
@@ -28,12 +28,12 @@ impl ReferenceKernel {
         self.groups[group.number as usize]
     }
 
-    /// Sets just these bits of a group.
+    /// Sets exactly these bits of a group.
     pub(super) fn put(&mut self, group: GroupId, bits: u32) {
         self.groups[group.number as usize] = bits;
     }
 
-    /// Of those who wait for bits of a group, and whom these bits meet, the one that began first.
+    /// The waiting task of a group that these bits meet and whose wait began first.
     fn first_met(&self, group: GroupId, bits: u32) -> Option<TaskId> {
         let mut best = None;
         for number in 0..32 {
@@ -51,7 +51,7 @@ impl ReferenceKernel {
         TaskId::new(number)
     }
 
-    /// A task that waits for bits is Ready, and its call will answer these. Returns which of them the call asked to clear.
+    /// Makes a task that waits for bits Ready. Its call will return these bits. Returns those of them that the call asked to clear.
     fn wake_with(&mut self, id: TaskId, bits: u32) -> u32 {
         let Status::WaitingForBits(wait) = self.task(id).status else {
             return 0;
@@ -68,8 +68,8 @@ impl ReferenceKernel {
         }
     }
 
-    /// The scheduler is held, and bits of a group are set. Each task that they meet wakes, and sees all of them; only then is
-    /// cleared what these tasks asked for.
+    /// Holds the scheduler, and sets bits of a group. Each task that they meet wakes and sees all of them. Only after that are the
+    /// bits cleared that these tasks asked to clear.
     pub(super) fn begin_set(&mut self, id: TaskId, group: GroupId, mask: u32) {
         self.is_held = true;
         let bits = self.bits(group) | mask;
@@ -88,7 +88,7 @@ impl ReferenceKernel {
         self.set_phase(id, Phase::Leave);
     }
 
-    /// `set` does its next phase: the first sets the bits, the second ends the hold and answers.
+    /// `set` does its next phase: the first sets the bits, the second ends the hold and returns.
     pub(super) fn set_bits(&mut self, app: &App, id: TaskId, group: GroupId, mask: u32) {
         if self.task(id).call.phase == Phase::Start {
             self.begin_set(id, group, mask);
@@ -99,14 +99,14 @@ impl ReferenceKernel {
         }
     }
 
-    /// `clear`, which answers the bits that were set before.
+    /// `clear`, which returns the bits that were set before.
     pub(super) fn clear_bits(&mut self, app: &App, id: TaskId, group: GroupId, mask: u32) {
         let bits = self.bits(group);
         self.put(group, bits & !mask);
         self.answer(app, id, Some(bits));
     }
 
-    /// Answers the bits of now. Where these are what is asked for, they may be cleared.
+    /// The call returns the present bits. If they meet a condition that clears, the bits of its mask are cleared.
     fn answer_bits(&mut self, app: &App, id: TaskId, group: GroupId, condition: Condition) {
         let bits = self.bits(group);
         if condition.clear && is_met(bits, condition) {
@@ -115,7 +115,7 @@ impl ReferenceKernel {
         self.answer(app, id, Some(bits));
     }
 
-    /// The scheduler is held, and the task begins to wait for bits.
+    /// Holds the scheduler, and the task begins to wait for bits.
     fn begin_wait(&mut self, id: TaskId, group: GroupId, condition: Condition, ticks: Option<u32>) {
         self.is_held = true;
         self.set_phase(id, Phase::Leave);
@@ -135,7 +135,7 @@ impl ReferenceKernel {
         );
     }
 
-    /// The last phase of a wait answers the bits that the set has kept for it, otherwise those of now.
+    /// The last phase of a wait returns the bits that the set kept for it, or otherwise the present bits.
     fn end_wait(&mut self, app: &App, id: TaskId, group: GroupId, condition: Condition) {
         match self.task(id).call.kept {
             Some(bits) => self.answer(app, id, Some(bits)),
