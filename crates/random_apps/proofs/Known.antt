@@ -1,4 +1,5 @@
--- Ops that an application of given objects, two event groups, four variables, four tasks of the file and three handlers knows.
+-- Ops that an application knows if it has given objects, two event groups, four variables, four tasks of the file and three
+-- handlers.
 use Rattle.std.proofs.Common.{◌≡◌, ◌&&◌, not, ◌≤◌, ◌<◌, ◌+◌, ℕ, Bool, ap, arith, length, length-append, refl, true, false, List, []}
 use Rattle.std.proofs.Common.{◌∷◌, ◌++◌, Option, Some, None, sym, subst}
 use Rattle.std.specs.Prelude.{Result, Ok, Err, IfOk, IsTrue, OnOk, OnErr, filter, is_ok, nat_eq, nat_lt, unwrap_or, if◌then◌else◌}
@@ -158,7 +159,7 @@ known_isr_values objects values known defined app same two four more three = rw 
 
 -- ---- handlers
 
--- a command of one of two event groups, where there is a daemon
+-- a command of one of two event groups, if there is a daemon
 pub known_command : (app : Application) (has_daemon : Bool) (c : Command) → is_some app.daemon ≡ has_daemon → IsTrue has_daemon
     → app.group_count ≡ 2 → c.group < 2 → is_mask c.mask ≡ true → knows_isr app (isr.Command c) ≡ true
 known_command app true c has is two first mask = rw (has, knows_group app c.group two first, mask) refl
@@ -172,7 +173,7 @@ known_ops app has_daemon objects same two four more three has [] h = tt
 known_ops app has_daemon objects same two four more three has (op ∷ ops) h =
     (h.0 app same two four more three has, known_ops app has_daemon objects same two four more three has ops h.1)
 
--- a handler of a short name and few ops that nest and are known, which comes no further apart than it may
+-- a handler with a short name, few ops that nest and are known, and a minimum distance within its limit
 pub known_handler : (has_daemon : Bool) (objects : List ObjectKind) (handler : Handler) → length handler.name ≤ most_name_bytes
     → length handler.ops ≤ most_handler_ops → handler.apart ≤ most_apart → Nests [] (isr_edges_of handler.ops)
     → AllByRecursion (IsKnownIsrWith has_daemon objects) handler.ops
@@ -241,20 +242,20 @@ few_pass p (i ∷ is) = by_test (p i)
     (λ t. let others = few_pass p is in rw t (omega arith))
     (λ t. let others = few_pass p is in rw t (omega arith))
 
--- at a tick no more than all
+-- at one tick there are at most as many as in all
 pub few_at : (app : Application) (tick : ℕ) → length (interrupts_at app tick) ≤ length app.interrupts
 few_at app tick =
     let passing = few_pass (λ (i : Interrupt). nat_eq i.tick tick) app.interrupts in
     let same = length-map (filter (λ (i : Interrupt). nat_eq i.tick tick) app.interrupts) (λ (i : Interrupt). i.handler) in
     omega arith
 
--- ---- the value of a call that has one
+-- ---- the value of a call that succeeds
 
 pub of_ok : {T E : Type 0} (r : Result T E) (P : T → Type 0) (x : T) → Some x ≡ result_ok r → IfOk r P → P x
 of_ok {T} (Ok y) P x e h = subst P (sym (ap (λ (o : Option T). unwrap_or o x) e)) h
 of_ok {T} (Err y) P x e h = let f = ap (λ (o : Option T). is_some o) e in absurd (cc)
 
--- what a list is after a call that may fail and did not
+-- the list after a call that could have failed and did not
 pub if_ok : {T E X : Type 0} (r : Result T E) (new more old : X) (x : T)
     → Some x ≡ result_ok r → new ≡ (if is_ok r then more else old) → new ≡ more
 if_ok (Ok y) new more old x e h = h

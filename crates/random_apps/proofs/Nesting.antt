@@ -1,4 +1,4 @@
--- Handlers that are built op by op nest as a whole.
+-- A handler that is built op by op nests as a whole.
 use Rattle.std.proofs.Common.{◌≡◌, ◌≤◌, ◌⊎◌, inl, inr, true, List, [], ◌∷◌, ◌++◌, ◌+◌, length, refl, ap, sym, subst, ◌∙◌, arith}
 use Rattle.std.proofs.Common.{length-append}
 use Rattle.std.specs.Prelude.{nat_lt, not}
@@ -26,11 +26,11 @@ nests_whole : (bs : List Block) (es : List Edge) → NestsSoFar bs es → blocks
 nests_whole bs [] nests closed = closed
 nests_whole bs (o ∷ es) nests closed = (nests.0, nests_whole (blocks_past o bs) es nests.1 closed)
 
--- the blocks that are open behind these ops, which nest so far
+-- the blocks that are open after these ops, which nest so far
 abbrev pub NestWith : List Block → List IsrOp → Type 0
 NestWith bs ops = (bs ≡ blocks_after [] (isr_edges_of ops)) × NestsSoFar [] (isr_edges_of ops)
 
--- one op more, which is allowed there
+-- one more op, which is allowed there
 pub nest_on : (bs : List Block) (ops : List IsrOp) (op : IsrOp) → NestWith bs ops → may_stand (edge_of_isr op) bs ≡ true
     → NestWith (blocks_past (edge_of_isr op) bs) (ops ++ op ∷ [])
 nest_on bs ops op h may =
@@ -42,12 +42,12 @@ nest_on bs ops op h may =
     ∙ ap (blocks_after []) (sym edges) in
     (behind, subst (NestsSoFar []) (sym edges) (nests_on [] (isr_edges_of ops) (edge_of_isr op) h.1 stands))
 
--- none is open
+-- no block is open
 pub nest_whole : (bs : List Block) (ops : List IsrOp) → NestWith bs ops
     → true ≡ not (nat_lt 0 (length bs)) → Nests [] (isr_edges_of ops)
 nest_whole bs ops h none = nests_whole [] (isr_edges_of ops) h.1 (sym h.0 ∙ nothing_open bs none)
 
--- ---- ops of which something is true, and how many there are
+-- ---- ops that share a property, and how many there are
 
 -- an op was appended, or left out
 pub all_pushed : (P : IsrOp → Type 0) (old new : List IsrOp) (op : IsrOp)

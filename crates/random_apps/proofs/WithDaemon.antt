@@ -1,4 +1,4 @@
--- The daemon behind four tasks, and its queue behind the objects of the file.
+-- The daemon after four tasks, and its queue after the objects of the file.
 use Rattle.std.proofs.Common.{ℕ, ◌≡◌, ◌≤◌, ◌-◌, Bool, true, false, List, [], ◌∷◌, ◌++◌, length, take, Option, Some, None, refl, ap}
 use Rattle.std.proofs.Common.{sym, subst, ◌∙◌, arith}
 use Rattle.std.specs.Prelude.{IsSomeAnd, IfSome, unwrap_or}

@@ -1,5 +1,5 @@
--- What may be in an application as soon as it has these objects, two event groups, four variables, four tasks of the file, and
--- three handlers.
+-- What an application may have if it has these objects, two event groups, four variables, four tasks of the file, and three
+-- handlers.
 use Rattle.std.specs.Prelude.{ℕ, ◌≡◌, ◌≤◌, ◌<◌, ◌+◌, ◌-◌, Bool, true, false, List, [], ◌∷◌, Option, Some, None, is_some, IfSome}
 use Rattle.std.specs.Prelude.{IsSomeAnd, length, option_map, unwrap_or}
 use Rattle.std.specs.List.{AllByRecursion, slice_get}
@@ -14,20 +14,20 @@ use Rattle.model.specs.declared.value.ValueOp.{ValueOp}
 use Rattle.model.specs.Application.{Application, Definition, Handler, Interrupt, of_file}
 use Rattle.model.specs.Scripts.{IsDefinition, IsHandler, fits, knows, knows_condition, knows_isr, knows_value, knows_values}
 
--- Every application of these objects, two event groups, four tasks of the file, four variables or more and three handlers knows
+-- Every application with these objects, two event groups, four tasks of the file, at least four variables and three handlers knows
 -- the op.
 abbrev pub IsKnown : List ObjectKind → Op → Type 0
 IsKnown objects op =
     (app : Application) → app.objects ≡ objects → app.group_count ≡ 2 → length (of_file app.daemon app.tasks) ≡ 4
     → 4 ≤ length app.variables → length app.handlers ≡ 3 → knows app op ≡ true
 
--- It knows each of them.
+-- Each of these ops is known.
 abbrev pub AreKnown : List ObjectKind → List Op → Type 0
 AreKnown objects ops =
     (app : Application) → app.objects ≡ objects → app.group_count ≡ 2 → length (of_file app.daemon app.tasks) ≡ 4
     → 4 ≤ length app.variables → length app.handlers ≡ 3 → AllByRecursion (λ op. knows app op ≡ true) ops
 
--- Every such application knows the op of a handler.
+-- Every such application knows this op of a handler.
 abbrev pub IsKnownIsr : List ObjectKind → IsrOp → Type 0
 IsKnownIsr objects op =
     (app : Application) → app.objects ≡ objects → app.group_count ≡ 2 → length (of_file app.daemon app.tasks) ≡ 4
@@ -47,20 +47,20 @@ IsKnownHandler has_daemon objects handler =
 
 -- ---- values
 
--- Every application of four variables or more has the one that the value is, if it is one.
+-- Every application with at least four variables has the variable that the value is, if it is one.
 abbrev pub IsKnownValue : Value → Type 0
 IsKnownValue value = (app : Application) → 4 ≤ length app.variables → knows_value app value ≡ true
 
--- It has the one with which an answer is compared, if that is one.
+-- It has the variable that an answer is compared with, if it is compared with one.
 abbrev pub IsKnownAnswer : Option Value → Type 0
 IsKnownAnswer wanted =
     (app : Application) → 4 ≤ length app.variables → unwrap_or (option_map (knows_value app) wanted) true ≡ true
 
--- It has the one that the condition names, if it names one.
+-- It has the variable that the condition names, if it names one.
 abbrev pub IsKnownCondition : AnswerCondition → Type 0
 IsKnownCondition condition = (app : Application) → 4 ≤ length app.variables → knows_condition app condition ≡ true
 
--- It has those that the op on values names.
+-- It has the variables that the op on values names.
 abbrev pub AreKnownValues : ValueOp → Type 0
 AreKnownValues op = (app : Application) → 4 ≤ length app.variables → knows_values app op ≡ true
 
@@ -94,11 +94,11 @@ pub record IsDaemonOf (objects : List ObjectKind) (daemon : Definition) : Type 0
   pub endless : daemon.endless ≡ true
   pub script : daemon.script ≡ NextCommand (length objects - 1) ∷ Obey ∷ []
 
--- four tasks of the file, whose ops are known, and behind them the daemon, if there is one
+-- four tasks of the file, whose ops are known, and after them the daemon, if there is one
 pub record AreTasks (has_daemon : Bool) (objects : List ObjectKind) (tasks : List Definition) : Type 0 where
   pub four : length (of_file (daemon_number has_daemon) tasks) ≡ 4
   pub formed : AllByRecursion IsDefinition tasks
   pub known : AllByRecursion (λ (d : Definition). AreKnown objects d.script) (of_file (daemon_number has_daemon) tasks)
-  -- only the daemon comes behind them
+  -- only the daemon comes after them
   pub behind : IfSome (daemon_number has_daemon) (λ daemon.
       (length tasks ≡ daemon + 1) × IsSomeAnd (slice_get tasks daemon) (IsDaemonOf objects))

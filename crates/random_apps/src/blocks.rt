@@ -1,4 +1,4 @@
-//! Branches and loops: scripts that go by what was answered.
+//! Branches and loops: scripts that act on last answers.
 ghost use Rattle.std.specs.Prelude.{◌≤◌, length};
 ghost use Rattle.model.specs.Scripts.{InRange};
 ghost use Rattle.random_apps.specs.Known.{AreKnown, IsKnown, IsKnownAnswer, IsKnownCondition, IsKnownValue};
@@ -7,7 +7,7 @@ use super::{Dice, Theme};
 use model::{AnswerCondition, ObjectKind, Op, ScriptBuilder, Value};
 
 impl Dice {
-    /// An answer for which a script may ask: `none`, a variable if tasks calculate, or mostly a small number.
+    /// An answer that a script may ask for: `none`, a variable if tasks calculate, or usually a small number.
     #[tactic(auto, using(crate::proofs::Known::known_none, crate::proofs::Known::known_some))]
     fn some_answer(&mut self) -> Option<Value>
         ensures { IsKnownAnswer result }
@@ -20,7 +20,7 @@ impl Dice {
         Some(self.operand(number))
     }
 
-    /// A bound for answers: mostly a small number, or about the printed ticks.
+    /// A bound for answers: usually a small number, otherwise one near the printed ticks.
     pub(super) fn bound(&mut self) -> u32 {
         if self.roll(4) == 0 {
             u32::MAX - self.roll(8)
@@ -29,7 +29,7 @@ impl Dice {
         }
     }
 
-    /// The same, or a variable if tasks calculate.
+    /// Such a bound, or a variable if tasks calculate.
     fn bounding_value(&mut self) -> Value
         ensures { IsKnownValue result }
     {
@@ -37,7 +37,7 @@ impl Dice {
         self.operand(number)
     }
 
-    /// What a script asks of the last answer.
+    /// A condition on the last answer.
     #[tactic(auto, using(crate::proofs::Known::known_is, crate::proofs::Known::known_is_not, crate::proofs::Known::known_below, crate::proofs::Known::known_above))]
     pub(super) fn answer_condition(&mut self) -> AnswerCondition
         ensures { IsKnownCondition result }
@@ -50,7 +50,7 @@ impl Dice {
         }
     }
 
-    /// A loop of a few turns, or sometimes one for ever: one in this many.
+    /// A loop of a few turns. One loop in `rarity` runs forever.
     pub(super) fn repeat(&mut self, objects: &[ObjectKind], rarity: u32) -> Op
         ensures range { InRange result }
         ensures known { IsKnown objects.now result }
@@ -77,7 +77,7 @@ impl Dice {
         }
     }
 
-    /// An op of a task that goes by what was answered.
+    /// An op of a task that acts on last answers.
     #[tactic(auto, using(crate::proofs::Known::known_expect))]
     pub(super) fn deciding_op(&mut self, objects: &[ObjectKind]) -> Op
         ensures range { InRange result }
@@ -98,7 +98,7 @@ impl Dice {
         }
     }
 
-    /// How many ops a script may have before its end.
+    /// The number of ops that a script may have before its end.
     pub(super) fn op_count(&mut self) -> u32
         ensures { result ≤ 24 }
     {
@@ -130,7 +130,7 @@ impl Dice {
     }
 }
 
-/// Ends the branches and loops that are open.
+/// Ends the open branches and loops.
 pub(super) fn close(script: &mut ScriptBuilder, objects: &[ObjectKind])
     requires few { length script.old ≤ 32 }
     requires known { AreKnown objects.now script.old }

@@ -54,7 +54,7 @@ impl Dice {
         }
     }
 
-    /// Whether the next call on this mutex gives it back: mostly, where the script has locked it and not given it back yet.
+    /// Whether the next call on this mutex gives it back: usually if the script has locked it and not given it back yet.
     fn gives_back(&mut self, mutex: ObjectId) -> bool {
         let is_held = self.held.get(mutex.number as usize).copied();
         let is_slip = self.roll(24) == 0;
@@ -67,7 +67,7 @@ impl Dice {
         }
     }
 
-    /// How long the next call for this mutex waits. A short wait may be in vain, so mostly nothing is given back after it.
+    /// How long the next call for this mutex waits. A short wait may time out, so usually nothing is given back after it.
     fn wait_for(&mut self, mutex: ObjectId) -> Option<u32>
         ensures { is_wait result ≡ true }
     {

@@ -8,7 +8,7 @@ use super::Dice;
 use model::{ObjectId, ObjectKind, Op, ScriptBuilder, TaskDefinition, TaskId};
 use std::alloc::Global;
 
-/// The number of the daemon, if there is one: it comes behind four tasks.
+/// The number of the daemon, if there is one: it comes after four tasks.
 pub(super) fn daemon_of(has_daemon: bool) -> Option<TaskId>
     ensures { result ≡ daemon_number has_daemon }
 {
@@ -28,7 +28,7 @@ impl Dice {
         ObjectKind::Queue(1 + self.roll(4) as u16)
     }
 
-    /// The objects of the file, and behind them the daemon's queue, if there is a daemon.
+    /// The objects of the file, and after them the daemon's queue, if there is a daemon.
     #[tactic(auto, using(crate::proofs::WithDaemon::no_queue, crate::proofs::WithDaemon::queue_pushed))]
     pub(super) fn all_objects(&mut self, alloc: Global, has_daemon: bool) -> Option<Vec<ObjectKind>>
         ensures few { IfSome result (λ objects. length objects.items ≤ 5) }
@@ -44,7 +44,8 @@ impl Dice {
         Some(objects)
     }
 
-    /// The daemon, whose queue is the last of these objects: of any priority from that of the lowest tasks to above all.
+    /// The daemon. Its queue is the last of these objects. Its priority may be any, from that of the lowest tasks to above all of
+    /// them.
     fn daemon(&mut self, alloc: Global, objects: &[ObjectKind]) -> Option<TaskDefinition>
         requires { length objects.now ≤ 5 }
         ensures { IfSome result (λ daemon. IsDaemonOf objects.now daemon) }
@@ -59,7 +60,7 @@ impl Dice {
         Some(TaskDefinition::new(name, priority, true, script))
     }
 
-    /// The tasks of the file, and behind them the daemon, if there is one.
+    /// The tasks of the file, and after them the daemon, if there is one.
     #[tactic(auto, using(crate::proofs::WithDaemon::no_daemon))]
     pub(super) fn all_tasks(
         &mut self,

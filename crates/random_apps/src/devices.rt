@@ -1,4 +1,4 @@
-//! Which interrupts come, and devices that answer later.
+//! Which interrupts can come, and devices that respond later.
 ghost use Rattle.std.specs.Prelude.{◌<◌, ◌≤◌, ◌≡◌, true};
 ghost use Rattle.model.specs.Scripts.{InRange, is_near, most_apart};
 ghost use Rattle.random_apps.specs.Known.{IsKnown, IsKnownIsr};
@@ -7,13 +7,13 @@ use super::{Dice, Theme};
 use model::{HandlerId, IsrOp, ObjectKind, Op, SourceOp};
 
 impl Dice {
-    /// Whether something is to be done to a handler: as often as not where tasks raise handlers, and never otherwise.
+    /// Whether the next op is on a handler: half of the time if tasks raise handlers, and never otherwise.
     pub(super) fn raises(&mut self) -> bool {
         self.theme == Theme::Device && self.roll(2) == 0
     }
 
-    /// Whether a handler is armed at reset, and how many ticks apart it comes at least. If tasks raise handlers, some are disarmed,
-    /// and some come a few ticks apart, or as many as may be.
+    /// Whether a handler is armed at reset, and how many ticks apart it comes at least. If tasks raise handlers, some are disarmed.
+    /// Some come a few ticks apart, or about as many as are allowed.
     pub(super) fn arrival(&mut self) -> (bool, u32)
         ensures { result.1 ≤ most_apart }
     {
@@ -38,8 +38,8 @@ impl Dice {
         }
     }
 
-    /// How many ticks away a handler is raised: a few; or as many as come up to a base interrupt or about there, or as many as may
-    /// be, where tasks sleep for long.
+    /// In how many ticks a raised handler comes: a few. If tasks sleep for long, it may also come near a base interrupt, or after
+    /// about as many ticks as are allowed.
     fn ticks_to_raised(&mut self) -> u32
         ensures first { 1 ≤ result }
         ensures last { result ≤ most_apart }
@@ -53,7 +53,7 @@ impl Dice {
         }
     }
 
-    /// What is done to a handler: mostly it is raised.
+    /// What is done to a handler: usually it is raised.
     fn source_op(&mut self) -> SourceOp
         ensures { is_near result ≡ true }
     {
@@ -75,7 +75,7 @@ impl Dice {
         Op::Source(self.some_handler(), self.source_op())
     }
 
-    /// One of a handler, perhaps on itself.
+    /// An op of a handler on a handler, perhaps on itself.
     #[tactic(auto, using(crate::proofs::Known::known_isr_source))]
     pub(super) fn isr_source_op(&mut self, objects: &[ObjectKind]) -> IsrOp
         ensures { IsKnownIsr objects.now result }

@@ -1,4 +1,4 @@
-//! Ops of a handler in the making, whose blocks nest.
+//! Ops of a handler under construction, whose blocks nest.
 ghost use Rattle.std.specs.Prelude.{◌≡◌, ◌⊎◌, ◌++◌, ◌∷◌, [], IfSome};
 ghost use Rattle.model.specs.Blocks.{Nests, isr_edges_of};
 
@@ -6,7 +6,7 @@ use model::{IsrOp, OpenBlocks};
 use std::alloc::Global;
 use std::marker::Model;
 
-/// Ops of a handler in the making: each is allowed where it is, and branches may still be open.
+/// Ops of a handler under construction. Each is allowed in its place, and branches may still be open.
 #[derive(Drop)]
 pub(super) struct HandlerOps {
     ops: Vec<IsrOp>,
@@ -36,7 +36,7 @@ impl HandlerOps {
         }
     }
 
-    /// Appends an op, or leaves it out where it isn't allowed.
+    /// Appends an op, or leaves it out if it isn't allowed.
     pub(super) fn push(&mut self, op: IsrOp)
         ensures { (self.new ≡ self.old ++ op ∷ []) ⊎ (self.new ≡ self.old) }
     {

@@ -13,7 +13,7 @@ use model::{
 };
 use std::alloc::Global;
 
-/// Ends the branches that are open.
+/// Ends the open branches.
 fn close(ops: &mut HandlerOps, objects: &[ObjectKind], has_daemon: bool)
     requires few { length ops.old ≤ 8 }
     requires known { AllByRecursion (IsKnownIsrWith has_daemon objects.now) ops.old }
@@ -65,8 +65,7 @@ impl Dice {
         self.isr_call_on(objects, object, kind)
     }
 
-    /// An op of a handler that resumes a task, or asks for the bits of a group; or, in applications of all sorts, one that
-    /// notifies a task.
+    /// An op of a handler that resumes a task or reads the bits of a group. In applications of all sorts it may also notify a task.
     #[tactic(auto, using(crate::proofs::Known::knows_group, crate::proofs::Known::knows_task))]
     fn isr_resume(&mut self, objects: &[ObjectKind]) -> IsrOp
         ensures { IsKnownIsr objects.now result }
@@ -78,8 +77,8 @@ impl Dice {
         }
     }
 
-    /// Whether the next op of a handler speaks of a task or a group: never where tasks crowd about objects or contend for
-    /// them, often where they are suspended.
+    /// Whether the next op of a handler is about a task or a group: never if tasks crowd around objects or contend for mutexes,
+    /// often if tasks are suspended.
     fn resumes(&mut self) -> bool {
         match self.theme {
             Theme::Crowd | Theme::Contest => false,
@@ -94,7 +93,7 @@ impl Dice {
         }
     }
 
-    /// A command that the daemon sets bits, or clears some.
+    /// A command to the daemon to set bits, or to clear some.
     #[tactic(auto, using(crate::proofs::Known::known_command))]
     fn isr_command(&mut self, objects: &[ObjectKind], has_daemon: bool) -> IsrOp
         requires { IsTrue has_daemon }
@@ -108,8 +107,8 @@ impl Dice {
         })
     }
 
-    /// Whether the next op of a handler is a command, where there is a daemon: mostly where tasks wait for bits, seldom where they
-    /// crowd about objects or contend for them.
+    /// Whether the next op of a handler is a command, if there is a daemon: usually if tasks wait for bits, seldom if they crowd
+    /// around objects or contend for mutexes.
     fn commands(&mut self) -> bool {
         match self.theme {
             Theme::Crowd | Theme::Contest => self.roll(8) == 0,
@@ -124,8 +123,8 @@ impl Dice {
         }
     }
 
-    /// Whether the next op of a handler looks at the answer of the one before: often where tasks go by what was answered too, and
-    /// seldom in applications of all sorts.
+    /// Whether the next op of a handler checks its last answer: often if tasks act on last answers too, and seldom in applications
+    /// of all sorts.
     fn looks(&mut self) -> bool {
         match self.theme {
             Theme::Decision => self.roll(5) < 3,
@@ -135,7 +134,7 @@ impl Dice {
         }
     }
 
-    /// What a handler expects of its last answer: mostly something that holds.
+    /// What a handler expects of its last answer: usually something that holds.
     #[tactic(auto, using(crate::proofs::Known::known_is_not, crate::proofs::Known::known_some))]
     fn expectation(&mut self) -> AnswerCondition
         ensures { IsKnownCondition result }
@@ -147,7 +146,7 @@ impl Dice {
         AnswerCondition::IsNot(Some(self.operand(number)))
     }
 
-    /// An op of a handler that looks: it opens or ends a branch, or expects something.
+    /// An op of a handler that checks its last answer: it opens or ends a branch, or expects something.
     #[tactic(auto, using(crate::proofs::Known::known_isr_if, crate::proofs::Known::known_isr_expect))]
     fn looking_op(&mut self, objects: &[ObjectKind]) -> IsrOp
         ensures { IsKnownIsr objects.now result }
@@ -191,7 +190,7 @@ impl Dice {
         IsrOp::Mark(self.value(10))
     }
 
-    /// How many ops a handler may have before its end.
+    /// The number of ops that a handler may have before its end.
     fn isr_op_count(&mut self) -> u32
         ensures { result ≤ 8 }
     {
@@ -201,8 +200,8 @@ impl Dice {
         }
     }
 
-    /// Up to five ops of a handler, or eight if it goes by last answers, notifies or calculates. An op that isn't allowed in its
-    /// place is left out. Then the branches that are open end.
+    /// Up to five ops of a handler, or eight if it acts on last answers, notifies or calculates. An op that isn't allowed in its
+    /// place is left out. Then the open branches end.
     fn isr_ops(
         &mut self,
         alloc: Global,
@@ -222,7 +221,7 @@ impl Dice {
         ops.finish()
     }
 
-    /// A handler, which is armed at reset and comes at any time, or not.
+    /// A handler. It may be disarmed at reset, and it may come only so many ticks apart.
     fn handler(
         &mut self,
         alloc: Global,
@@ -278,7 +277,7 @@ impl Dice {
         Some(handlers)
     }
 
-    /// How many ticks after another base interrupt one comes: few, or often many, where tasks sleep for long.
+    /// How many ticks after the previous base interrupt the next one comes: few, or often many if tasks sleep for long.
     fn ticks_between(&mut self) -> u32
         ensures { result ≤ 200000 }
     {

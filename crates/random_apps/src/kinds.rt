@@ -8,7 +8,7 @@ use model::ObjectKind;
 use std::alloc::Global;
 
 impl Dice {
-    /// A queue, mostly a short one.
+    /// A queue, usually a short one.
     fn queue(&mut self) -> ObjectKind
         ensures { IsObjectKind result }
     {
@@ -19,7 +19,7 @@ impl Dice {
         }
     }
 
-    /// A counting semaphore, mostly of a small greatest count, and never one that is like a binary one.
+    /// A counting semaphore, usually with a small greatest count. It is never equal to a binary one.
     fn counting(&mut self) -> ObjectKind
         ensures { IsObjectKind result }
     {
@@ -31,7 +31,7 @@ impl Dice {
         }
     }
 
-    /// The object of this face, of 16, in the order in which a file has them.
+    /// The object for this face of 16, in the order in which a file lists them.
     fn object(&mut self, face: u32) -> ObjectKind
         ensures { IsObjectKind result }
     {
@@ -43,7 +43,7 @@ impl Dice {
         }
     }
 
-    /// A face for an object: tasks crowd about queues and semaphores, and contend mostly for mutexes.
+    /// A face for an object: tasks crowd around queues and semaphores, and contend mainly for mutexes.
     fn face(&mut self) -> u32 {
         match self.theme {
             Theme::Any
@@ -57,7 +57,8 @@ impl Dice {
         }
     }
 
-    /// One object or two where tasks crowd about them, contend for them or are suspended there, otherwise up to four.
+    /// The number of objects: up to four in applications of all sorts, at most one if tasks wait for bits or notify each other,
+    /// otherwise one or two.
     fn object_count(&mut self) -> u32
         ensures { result ≤ 4 }
     {

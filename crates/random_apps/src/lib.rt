@@ -27,18 +27,18 @@ mod ops;
 mod sections;
 mod values;
 
-/// Numbers that follow from a seed.
+/// Pseudorandom numbers from a seed.
 #[derive(Drop)]
 pub struct Dice {
     state: u32,
     theme: Theme,
-    /// How many objects its file has: all but the daemon's queue, which is the last one.
+    /// The number of objects of the file: all but the daemon's queue, which is the last one.
     file_objects: u8,
     /// What the calls of the present task or handler do.
     role: Role,
-    /// Whether the present task sleeps first, and has the priority of those that don't or a higher one.
+    /// Whether the present task sleeps first. Its priority is then that of the tasks that don't, or higher.
     is_late: bool,
-    /// Which of the objects are mutexes that the present script has locked and not given back yet.
+    /// Which objects are mutexes that the present script has locked and not given back yet.
     held: [bool; 4],
     /// How often the present script has suspended the scheduler and not resumed it yet.
     suspensions: u8,
@@ -46,37 +46,38 @@ pub struct Dice {
     sections: u8,
     /// Whether the present script or handler has an op that gives it a last answer.
     has_answer: bool,
-    /// The number of the present task, and the other task that it has suspended last and not resumed yet.
+    /// The number of the present task, and the other task that it last suspended and has not resumed yet.
     present: u8,
     suspended: Option<TaskId>,
-    /// Whether tasks sometimes sleep and wait for long, as they may where idle lets all ticks of that pass in a step.
+    /// Whether tasks sometimes sleep and wait for long. They may if idle lets all of these ticks pass in one step.
     sleeps_long: bool,
     /// Which of the four tasks are endless.
     endless: [bool; 4],
 }
 
-/// What the tasks of an application do for the most part.
+/// What the tasks of an application do most of the time.
 #[derive(Clone, Copy, PartialEq, Eq)]
 enum Theme {
     Any,
-    /// They crowd about one queue or semaphore or two, and do little else than to wait there.
+    /// They crowd around one or two queues or semaphores, and do little but wait there.
     Crowd,
-    /// They contend for mutexes: those of low priority come first, and work while they hold them.
+    /// They contend for mutexes. Those of low priority come first, and work while they hold them.
     Contest,
     /// They wait for bits of event groups, and set them.
     Gathering,
     /// They suspend and resume each other, and the scheduler.
     Suspension,
-    /// They go by what was answered: their scripts have branches, and loops that are left. So do the handlers. They measure time.
+    /// They act on last answers: their scripts have branches, and loops with a `break`. Handlers do the same. The tasks also
+    /// measure time.
     Decision,
     /// They open and close critical sections, and call on objects in between.
     Section,
     /// They notify each other, and wait for notifications. Handlers notify them.
     Signal,
-    /// They load and store variables, calculate, and pass on what was answered. So do the handlers.
+    /// They load and store variables, calculate, and pass on answers. Handlers do the same.
     Calculation,
-    /// They arm and disarm handlers, raise them, and cancel that. So do the handlers. Some of these are disarmed at reset, or come
-    /// only so many ticks apart.
+    /// They arm, disarm, raise and cancel handlers. Handlers do the same. Some handlers are disarmed at reset, or come only so many
+    /// ticks apart.
     Device,
 }
 
@@ -90,7 +91,7 @@ enum Role {
     Receives,
 }
 
-/// Appends the op to a script, where that is so.
+/// Appends the op to a script, if the condition holds.
 fn push_if(script: &mut ScriptBuilder, objects: &[ObjectKind], op: Op, is_so: bool)
     requires range { InRange op }
     requires is_known { IsKnown objects.now op }
@@ -129,7 +130,7 @@ impl Dice {
         Dice::of_theme(seed, Theme::Any)
     }
 
-    /// For applications whose tasks crowd about one queue or semaphore or two.
+    /// For applications whose tasks crowd around one or two queues or semaphores.
     pub fn crowding(seed: u32) -> Self {
         Dice::of_theme(seed, Theme::Crowd)
     }
@@ -149,7 +150,7 @@ impl Dice {
         Dice::of_theme(seed, Theme::Suspension)
     }
 
-    /// For applications whose tasks and handlers go by what was answered.
+    /// For applications whose tasks and handlers act on last answers.
     pub fn deciding(seed: u32) -> Self {
         Dice::of_theme(seed, Theme::Decision)
     }
@@ -186,7 +187,7 @@ impl Dice {
         (self.state >> 16) % sides
     }
 
-    /// How long a task sleeps: for a few ticks, up to as many as this, less one; or sometimes for long, where tasks do.
+    /// How long a task sleeps: fewer ticks than this, or sometimes for long, if tasks do that.
     fn ticks(&mut self, sides: u32) -> u32
         requires { 0 < sides }
     {
@@ -197,7 +198,7 @@ impl Dice {
         }
     }
 
-    /// The same of a task that sleeps in periods, which are one tick at least.
+    /// The same for a task that sleeps in periods, which are at least one tick.
     fn period(&mut self, sides: u32) -> u32
         requires { (0 < sides) × (sides < 4294967295) }
         ensures first { 1 ≤ result }
@@ -210,8 +211,7 @@ impl Dice {
         }
     }
 
-    /// Many ticks: as many as come up to a base interrupt or about there, millions, or nearly as many as there are numbers of 32
-    /// bits.
+    /// Many ticks: about as many as until a base interrupt, millions, or nearly 2^32.
     fn long_ticks(&mut self) -> u32
         ensures first { 1 ≤ result }
         ensures last { result < 4294967295 }
@@ -223,8 +223,8 @@ impl Dice {
         }
     }
 
-    /// How long a call waits: not at all, for some ticks, for ever, or for longer than a run of few ticks lasts. Where tasks sleep
-    /// for long, some waits are as long.
+    /// How long a call waits: not at all, for some ticks, forever, or for longer than a run of few ticks lasts. If tasks sleep for
+    /// long, some waits are as long.
     fn wait(&mut self) -> Option<u32>
         ensures { is_wait result ≡ true }
     {
@@ -245,7 +245,7 @@ impl Dice {
         }
     }
 
-    /// The first op of a late task: it sleeps, or suspends itself where tasks do that.
+    /// The first op of a late task: it sleeps, or suspends itself if tasks do that.
     #[tactic(auto, using(crate::proofs::Known::knows_task))]
     fn first_op(&mut self, objects: &[ObjectKind]) -> Op
         ensures range { InRange result }
@@ -260,7 +260,7 @@ impl Dice {
         Op::Delay(1 + self.roll(3))
     }
 
-    /// The op of this index.
+    /// The op at this index.
     fn op_at(&mut self, index: u32, objects: &[ObjectKind]) -> Op
         ensures range { InRange result }
         ensures known { IsKnown objects.now result }
@@ -271,7 +271,7 @@ impl Dice {
         self.op(objects)
     }
 
-    /// Gives a mutex back that the script still holds, at its end.
+    /// The op that gives back this mutex, if the script still holds it at its end.
     fn last_unlock(&self, objects: &[ObjectKind], number: u8) -> Option<Op>
         ensures range { IfSome result (λ op. InRange op) }
         ensures known { IfSome result (λ op. IsKnown objects.now op) }
@@ -285,7 +285,7 @@ impl Dice {
         }
     }
 
-    /// Forgets that the present script has suspended the scheduler, or has a critical section open, once and seldom.
+    /// Occasionally forgets one suspension of the scheduler, or one open critical section, of the present script.
     fn forget_hold(&mut self) {
         if self.suspensions > 0 && self.roll(12) == 0 {
             self.suspensions = self.suspensions.saturating_sub(1);
@@ -295,7 +295,7 @@ impl Dice {
         }
     }
 
-    /// Closes the critical sections that a script leaves open, and resumes the scheduler as often as that has suspended it.
+    /// Closes the critical sections that a script leaves open, and resumes the scheduler as often as the script has suspended it.
     fn end_holds(&self, script: &mut ScriptBuilder, objects: &[ObjectKind])
         requires few { length script.old ≤ 24 }
         requires known { AreKnown objects.now script.old }
@@ -308,7 +308,7 @@ impl Dice {
         push_if(script, objects, Op::ResumeAll, self.suspensions > 1);
     }
 
-    /// Gives back what a script holds at its end.
+    /// Gives back the mutexes that a script still holds at its end.
     fn unlock_all(&self, script: &mut ScriptBuilder, objects: &[ObjectKind])
         requires few { length script.old ≤ 28 }
         requires known { AreKnown objects.now script.old }
@@ -320,7 +320,7 @@ impl Dice {
         }
     }
 
-    /// Gives the mutex of this number back, where it is held.
+    /// Gives back the mutex of this number, if it is held.
     fn unlock_last(&self, script: &mut ScriptBuilder, objects: &[ObjectKind], number: u8)
         requires few { length script.old ≤ 31 }
         requires known { AreKnown objects.now script.old }
@@ -332,9 +332,9 @@ impl Dice {
         }
     }
 
-    /// Up to eight ops, or 24 where tasks go by what was answered, or 16 where they open critical sections, notify, calculate or
-    /// raise handlers. An op that isn't allowed in its place is left out. Then sections that are open are closed, the scheduler is
-    /// resumed if it is suspended, mutexes that are held are given back, and branches and loops that are open end.
+    /// Up to eight ops; 24 if tasks act on last answers; 16 if they open critical sections, notify, calculate or raise handlers. An
+    /// op that isn't allowed in its place is left out. Then the script closes open sections, resumes a suspended scheduler, gives
+    /// back held mutexes, and ends open branches and loops.
     fn script(&mut self, alloc: Global, objects: &[ObjectKind]) -> Option<Script>
         ensures script { IfSome result (λ script. IsScript script) }
         ensures known { IfSome result (λ script. AreKnown objects.now script) }
@@ -384,8 +384,8 @@ impl Dice {
         Some(TaskDefinition::new(name, priority, self.is_endless(), script))
     }
 
-    /// What the calls of the first two tasks do, and those of the others: where tasks crowd about queues and semaphores, or
-    /// about event groups, or notify each other, some send, give, set or notify and the others receive, take or wait.
+    /// The roles of the first two tasks, and of the other two. If tasks crowd around queues and semaphores, wait for bits or notify
+    /// each other, two of them send, give, set or notify. The other two receive, take or wait.
     fn roles(&mut self) -> (Role, Role) {
         let is_divided = matches!(self.theme, Theme::Crowd | Theme::Gathering | Theme::Signal);
         match self.roll(2) {
@@ -441,8 +441,8 @@ impl Dice {
         Some(tasks)
     }
 
-    /// Where a run of the application ends at the latest. Where tasks sleep for long, the ticks are few, or up to about a base
-    /// interrupt, or millions, or past the wrap of the tick, or as many as may be.
+    /// The limits of a run of the application. If tasks sleep for long, the tick limit varies: it is small, near a base interrupt,
+    /// in the millions, past the wrap of the tick, or close to the greatest one.
     fn limits(&mut self) -> Option<Limits> {
         let ticks = match self.roll(5) {
             1 if self.sleeps_long => 100_000 * (1 + self.roll(9) as u64) + self.roll(4) as u64,
@@ -455,9 +455,10 @@ impl Dice {
         Limits::new(ticks, 20 + self.roll(300))
     }
 
-    /// Four tasks, three handlers, two event groups, four variables or more, and up to four objects and four base interrupts,
-    /// shortly before the tick wraps; and as often a daemon as none. Every other one is tickless, and in half of these tasks sleep
-    /// for long. In some of them a few tasks or all are endless. It has no points, which no run depends on.
+    /// Makes an application with four tasks, three handlers, two event groups, and at least four variables. It has up to four
+    /// objects and up to four base interrupts, and starts shortly before the tick wraps. Half of the applications have a daemon.
+    /// Half are tickless, and in half of these tasks sleep for long. In some, a few tasks or all of them are endless. There are no
+    /// points, as no run depends on them.
     pub fn app(&mut self, alloc: Global) -> Option<App> {
         let has_daemon = self.roll(2) == 0;
         let tickless = self.roll(2) == 0;

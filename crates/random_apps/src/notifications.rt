@@ -14,7 +14,7 @@ impl Dice {
         self.roll(8)
     }
 
-    /// The value that a notify brings: a number of three bits, or as it may be the last answer.
+    /// The value that a notify sends: a number of three bits, or sometimes the last answer.
     fn notified_value(&mut self) -> Value {
         if self.theme == Theme::Signal && self.has_answer && self.roll(4) == 0 {
             return Value::Answer;
@@ -22,7 +22,7 @@ impl Dice {
         Value::Number(self.notification_bits())
     }
 
-    /// What a notify does to the value: it counts as often as not.
+    /// What a notify does to the value: often it increments it.
     fn action(&mut self) -> NotifyAction<Value> {
         match self.roll(12) {
             0..=4 => NotifyAction::Increment,
@@ -33,7 +33,7 @@ impl Dice {
         }
     }
 
-    /// The masks of a wait: some of three bits each, or seldom all bits at its end.
+    /// The masks of a wait: some of three bits each, or sometimes all bits at its end.
     fn masks(&mut self) -> NotificationMasks {
         let entry = self.notification_bits();
         let exit = if self.roll(4) == 0 {
@@ -44,7 +44,7 @@ impl Dice {
         NotificationMasks { entry, exit }
     }
 
-    /// For what a task waits: a count as often as any notification.
+    /// What a task waits for: half of the time a count, otherwise any notification.
     fn notification_wait(&mut self) -> NotificationWait {
         match self.roll(4) {
             0 => NotificationWait::Take(true),
@@ -65,7 +65,7 @@ impl Dice {
         Op::ClearNotification(NotificationClear::Bits(self.notification_bits()))
     }
 
-    /// An op that notifies some task, perhaps the one that does it.
+    /// An op that notifies some task, perhaps the caller itself.
     #[tactic(auto, using(crate::proofs::Known::knows_task))]
     fn notify(&mut self, objects: &[ObjectKind]) -> Op
         ensures range { InRange result }
@@ -95,7 +95,7 @@ impl Dice {
         }
     }
 
-    /// An op of a task that notifies others for the most part, or waits for notifications. Such tasks suspend each other too.
+    /// An op of a task that usually notifies others, or waits for notifications. Such tasks suspend each other too.
     pub(super) fn signalling_op(&mut self, objects: &[ObjectKind]) -> Op
         ensures range { InRange result }
         ensures known { IsKnown objects.now result }
@@ -110,7 +110,7 @@ impl Dice {
         }
     }
 
-    /// Whether the next op of a handler is a notify: mostly if tasks wait for notifications, and never otherwise.
+    /// Whether the next op of a handler is a notify: usually if tasks wait for notifications, and never otherwise.
     pub(super) fn notifies(&mut self) -> bool {
         self.theme == Theme::Signal && self.roll(3) > 0
     }

@@ -1,4 +1,4 @@
-//! Ops of tasks, of the kinds that an application is for.
+//! Ops of tasks, by the theme of the application.
 ghost use Rattle.std.specs.Prelude.{◌<◌, ◌≡◌, true};
 ghost use Rattle.model.specs.Scripts.{InRange, is_mask};
 ghost use Rattle.random_apps.specs.Known.{IsKnown};
@@ -7,7 +7,8 @@ use super::{Dice, Role, Theme};
 use model::{Condition, GroupId, ObjectKind, Op, TaskId};
 
 impl Dice {
-    /// An op that asks for the time; or one that measures it, in applications of all sorts and in those that go by last answers.
+    /// An op that reads the time. It may also measure time in applications of all sorts, and in those that act on last answers,
+    /// open critical sections or calculate.
     pub(super) fn clock_op(&mut self, objects: &[ObjectKind]) -> Op
         ensures range { InRange result }
         ensures known { IsKnown objects.now result }
@@ -26,7 +27,7 @@ impl Dice {
         }
     }
 
-    /// An op that speaks of no object, no event group and no task.
+    /// An op that is about no object, no event group and no task.
     #[tactic(auto, using(crate::proofs::Known::known_expect))]
     fn plain_op(&mut self, objects: &[ObjectKind]) -> Op
         ensures range { InRange result }
@@ -46,7 +47,7 @@ impl Dice {
         }
     }
 
-    /// One of two event groups, mostly the first.
+    /// One of two event groups, usually the first.
     pub(super) fn group(&mut self) -> GroupId
         ensures { result < 2 }
     {
@@ -64,7 +65,7 @@ impl Dice {
         1 + self.roll(7)
     }
 
-    /// For which bits a task waits.
+    /// The bits that a task waits for.
     fn condition(&mut self) -> Condition
         ensures { is_mask result.mask ≡ true }
     {
@@ -75,7 +76,7 @@ impl Dice {
         }
     }
 
-    /// An op on an event group: it sets bits, clears them, asks for them or waits for them.
+    /// An op on an event group: it sets, clears, reads or waits for bits.
     #[tactic(auto, using(crate::proofs::Known::knows_group))]
     fn group_op(&mut self, objects: &[ObjectKind]) -> Op
         ensures range { InRange result }
@@ -105,7 +106,8 @@ impl Dice {
         }
     }
 
-    /// Suspends some task, perhaps the one that does it, or resumes one, mostly the other one that it has suspended last.
+    /// Suspends some task, perhaps the caller itself, or resumes one. That is usually the other task that the caller last
+    /// suspended.
     #[tactic(auto, using(crate::proofs::Known::knows_task))]
     pub(super) fn suspension_op(&mut self, objects: &[ObjectKind]) -> Op
         ensures range { InRange result }
@@ -130,7 +132,7 @@ impl Dice {
         Op::Suspend(task)
     }
 
-    /// Suspends the scheduler; seldom resumes it where it isn't suspended.
+    /// Suspends the scheduler; rarely resumes it although it isn't suspended.
     pub(super) fn begin_suspension(&mut self, objects: &[ObjectKind]) -> Op
         ensures range { InRange result }
         ensures known { IsKnown objects.now result }
@@ -143,7 +145,7 @@ impl Dice {
         Op::SuspendAll
     }
 
-    /// Suspends the scheduler once more, at most twice in all, otherwise resumes it.
+    /// Suspends the scheduler once more, at most twice in all, or resumes it.
     fn change_suspension(&mut self, objects: &[ObjectKind]) -> Op
         ensures range { InRange result }
         ensures known { IsKnown objects.now result }
@@ -157,7 +159,7 @@ impl Dice {
         Op::ResumeAll
     }
 
-    /// An op that may be done while the scheduler is suspended.
+    /// An op that is allowed while the scheduler is suspended.
     #[tactic(auto, using(crate::proofs::Known::knows_group))]
     fn suspended_op(&mut self, objects: &[ObjectKind]) -> Op
         ensures range { InRange result }
@@ -184,7 +186,7 @@ impl Dice {
         }
     }
 
-    /// An op of any kind. One that speaks of no object comes in place of a call where there is no object.
+    /// An op of any kind. If there is no object to call on, it is an op that is about none.
     pub(super) fn any_op(&mut self, objects: &[ObjectKind]) -> Op
         ensures range { InRange result }
         ensures known { IsKnown objects.now result }
@@ -202,7 +204,7 @@ impl Dice {
         }
     }
 
-    /// An op of a task that waits for bits for the most part, or sets them.
+    /// An op of a task that usually waits for bits, or sets them.
     fn gathering_op(&mut self, objects: &[ObjectKind]) -> Op
         ensures range { InRange result }
         ensures known { IsKnown objects.now result }
@@ -216,8 +218,8 @@ impl Dice {
         }
     }
 
-    /// An op of a task that suspends and resumes others for the most part, if it is a late one, otherwise of one that has much
-    /// to be suspended in.
+    /// For a late task, usually an op that suspends or resumes a task. For any other, usually an op during which it can be
+    /// suspended.
     fn suspending_op(&mut self, objects: &[ObjectKind]) -> Op
         ensures range { InRange result }
         ensures known { IsKnown objects.now result }
@@ -241,7 +243,7 @@ impl Dice {
         }
     }
 
-    /// An op of a task that does little else than to call on objects.
+    /// An op of a task that does little but call on objects.
     fn busy_op(&mut self, objects: &[ObjectKind]) -> Op
         ensures range { InRange result }
         ensures known { IsKnown objects.now result }

@@ -6,7 +6,7 @@ use super::{Dice, Theme};
 use model::{ObjectId, ObjectKind, Op};
 
 impl Dice {
-    /// Opens a critical section; seldom closes one where none is open.
+    /// Opens a critical section; rarely closes one although none is open.
     pub(super) fn begin_section(&mut self, objects: &[ObjectKind]) -> Op
         ensures range { InRange result }
         ensures known { IsKnown objects.now result }
@@ -19,7 +19,7 @@ impl Dice {
         Op::EnterCritical
     }
 
-    /// Opens a section inside another, at most two in all, otherwise closes one.
+    /// Opens a section inside another, at most two in all, or closes one.
     fn change_section(&mut self, objects: &[ObjectKind]) -> Op
         ensures range { InRange result }
         ensures known { IsKnown objects.now result }
@@ -33,7 +33,7 @@ impl Dice {
         Op::ExitCritical
     }
 
-    /// Asks how many items are in a queue, or for how many more there is room. If the object isn't a queue, it is a mark.
+    /// Asks how many items are in a queue, or how much room is left. If the object isn't a queue, the op is a mark.
     fn look_at(&mut self, objects: &[ObjectKind], object: ObjectId) -> Op
         ensures range { InRange result }
         ensures known { IsKnown objects.now result }
@@ -56,7 +56,7 @@ impl Dice {
         }
     }
 
-    /// An op that may be done while a critical section is open.
+    /// An op that is allowed while a critical section is open.
     #[tactic(auto, using(crate::proofs::Known::knows_group, crate::proofs::Known::known_expect))]
     pub(super) fn critical_op(&mut self, objects: &[ObjectKind]) -> Op
         ensures range { InRange result }

@@ -12,7 +12,7 @@ use std::alloc::Global;
 impl Dice {
     // ---- variables
 
-    /// How many variables there are: four, or as often more if tasks calculate.
+    /// The number of variables: four, or half of the time up to 32 if tasks calculate.
     fn variable_count(&mut self) -> u32
         ensures some { 4 ≤ result }
         ensures few { result ≤ 32 }
@@ -26,12 +26,12 @@ impl Dice {
         4 + self.roll(4)
     }
 
-    /// The initial value of a variable, which is often 0, so that nothing can be divided by it.
+    /// The initial value of a variable. It is often 0, so that a division by it fails.
     fn initial_value(&mut self) -> u32 {
         if self.calculates() { self.bound() } else { 0 }
     }
 
-    /// The variables, by their initial values.
+    /// The initial values of the variables.
     pub(super) fn variables(&mut self, alloc: Global) -> Option<Vec<u32>>
         ensures some { IfSome result (λ variables. 4 ≤ length variables.items) }
         ensures few { IfSome result (λ variables. length variables.items ≤ 32) }
@@ -58,7 +58,8 @@ impl Dice {
 
     // ---- values
 
-    /// A number below this one, or if tasks calculate, the last answer as often, though seldom before any op that gives one.
+    /// A number below this one. If tasks calculate, half of the time it is the last answer instead, but seldom before any op that
+    /// gives one.
     #[tactic(auto, using(crate::proofs::Known::known_number, crate::proofs::Known::known_answer))]
     pub(super) fn value(&mut self, sides: u32) -> Value
         requires { 0 < sides }
@@ -70,7 +71,7 @@ impl Dice {
         Value::Number(self.roll(sides))
     }
 
-    /// This number, or if tasks calculate, a variable as often.
+    /// This number. If tasks calculate, half of the time it is a variable instead.
     #[tactic(auto, using(crate::proofs::Known::known_number, crate::proofs::Known::known_variable))]
     pub(super) fn operand(&mut self, number: u32) -> Value
         ensures { IsKnownValue result }
@@ -110,7 +111,7 @@ impl Dice {
         }
     }
 
-    /// Another result of the last answer and a number or a variable.
+    /// Another arithmetic op on the last answer and a number or a variable.
     #[tactic(auto, using(crate::proofs::Known::known_result))]
     fn calculation(&mut self) -> ValueOp
         ensures defined { is_defined result ≡ true }
@@ -128,7 +129,7 @@ impl Dice {
         }
     }
 
-    /// A variable is loaded.
+    /// Loads a variable.
     #[tactic(auto, using(crate::proofs::Known::known_load))]
     fn load(&mut self) -> ValueOp
         ensures defined { is_defined result ≡ true }
@@ -138,7 +139,7 @@ impl Dice {
         ValueOp::Load(self.variable())
     }
 
-    /// A variable is stored.
+    /// Stores a variable.
     #[tactic(auto, using(crate::proofs::Known::known_store))]
     fn store(&mut self) -> ValueOp
         ensures defined { is_defined result ≡ true }
@@ -148,7 +149,7 @@ impl Dice {
         ValueOp::Store(variable, self.value(6))
     }
 
-    /// An op on values: usually a load, before any op that gives a last answer.
+    /// An op on values. Before any op that gives a last answer, it is usually a load.
     fn value_op(&mut self) -> ValueOp
         ensures defined { is_defined result ≡ true }
         ensures known { AreKnownValues result }
@@ -174,7 +175,7 @@ impl Dice {
         Op::Value(self.value_op())
     }
 
-    /// One of a handler, or seldom a mark of its last answer.
+    /// An op of a handler on values, or rarely a mark of its last answer.
     #[tactic(auto, using(crate::proofs::Known::known_isr_values))]
     pub(super) fn isr_value_op(&mut self, objects: &[ObjectKind]) -> IsrOp
         ensures { IsKnownIsr objects.now result }
@@ -186,7 +187,7 @@ impl Dice {
         IsrOp::Value(self.value_op())
     }
 
-    /// Whether something is to do with values: as often as not if tasks calculate, and never otherwise.
+    /// Whether the next choice is about values: half of the time if tasks calculate, and never otherwise.
     pub(super) fn calculates(&mut self) -> bool {
         self.theme == Theme::Calculation && self.roll(2) == 0
     }
