@@ -1,4 +1,4 @@
-//! Each call by itself, which is made once more if memory was refused to it.
+//! Each call on its own. It is made once more if memory was refused.
 ghost use Rattle.std.specs.Prelude.{IfOk};
 ghost use Rattle.shelf.specs.Shelves.{IsShelf};
 
@@ -13,7 +13,7 @@ use std::alloc::Global;
 use std::sync::Wait;
 use std::thread::Threads;
 
-// What a call gives, at the second time if memory was refused at the first.
+// The result of a call. If memory is refused the first time, it is the result of the second try.
 macro_rules! again {
     ($call:expr) => {
         match $call {
@@ -59,7 +59,7 @@ pub(crate) fn serve_again<T: Threads + Wait + Sync>(
     again!(served(rt, threads))
 }
 
-/// How many blocks the division has.
+/// The number of blocks of the division.
 pub(crate) fn blocks_again(alloc: Global) -> Result<usize, Fault> {
     let division = again!(divided(alloc))?;
     Ok(division.count())

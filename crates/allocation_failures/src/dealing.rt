@@ -29,7 +29,7 @@ pub(crate) fn dealt(alloc: Global) -> Result<Next, Fault> {
     }
 }
 
-/// The counts of a tally of three seats, which haven't added yet.
+/// The counts of a tally with three seats, which haven't added anything yet.
 pub(crate) fn counted(alloc: Global) -> Result<Counts, Fault> {
     let Ok((tally, seats)) = Tally::make(alloc, 3) else {
         return Err(Fault::Memory);

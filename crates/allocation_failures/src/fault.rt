@@ -1,8 +1,8 @@
-//! Why a call gave nothing.
+//! Why a call returned no result.
 use campaign::{ExpandFault, ServeFault};
 use script::LoadError;
 
-/// Memory was refused; or there is another fault, which no call here has.
+/// Memory was refused; or another fault occurred, which no call here has.
 #[derive(Clone, Copy)]
 pub(crate) enum Fault {
     Memory,

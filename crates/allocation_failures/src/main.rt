@@ -1,7 +1,7 @@
-//! Each call that takes memory, and what it gives. A call to which memory is refused is made once more, of the same values.
+//! Each call that takes memory, and its result. If memory is refused, the call is made once more with the same values.
 //!
-//! `tests/allocation_failures` runs this with the first growth refused, then the second, and so on. What it writes must be the
-//! same each time: a call returns `Memory`, and leaves what it was given as it was, or gives what it gives with ample memory.
+//! `tests/allocation_failures` runs this with the first growth refused, then the second, and so on. The output must be the same
+//! each time: a call returns `Memory` and leaves its arguments as they were, or its result is the same as with ample memory.
 #![tactic(auto)]
 
 ghost use Rattle.shelf.specs.Shelves.{IsShelf};
@@ -37,7 +37,7 @@ fn row(rt: &HostRuntime, app: &App, shelf: &Shelf, step: u32) -> Result<(), Faul
     show_run(rt, app, title, &row.run)
 }
 
-// Rows from one shelf: their points reached and not.
+// Rows from one shelf, of points that are reached and of points that aren't.
 fn rows(rt: &HostRuntime, app: &App) -> Result<(), Fault> {
     let shelf = shelf_again(rt.alloc(), app)?;
     for step in [0, 7, 90] {

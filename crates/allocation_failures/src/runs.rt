@@ -50,7 +50,7 @@ pub(crate) fn base_run(alloc: Global, app: &App) -> Result<Run, Fault> {
     }
 }
 
-/// The shelf, which keeps the kernel before each fourth step.
+/// The shelf, which stores a checkpoint before every fourth step.
 pub(crate) fn shelf_of(alloc: Global, app: &App) -> Result<Shelf, Fault>
     ensures { IfOk result (λ shelf. IsShelf app.now shelf) }
 {
@@ -60,7 +60,7 @@ pub(crate) fn shelf_of(alloc: Global, app: &App) -> Result<Shelf, Fault>
     }
 }
 
-/// The row of the handler before this step, from the shelf.
+/// The row from the shelf for an injection of the handler before this step.
 pub(crate) fn row_of(alloc: Global, app: &App, shelf: &Shelf, step: u32) -> Result<Row, Fault>
     requires { IsShelf app.now shelf.now }
 {
