@@ -1,10 +1,10 @@
-//! Loops and branches. A search of the script finds where it continues.
+//! Loops and branches. A search of the script finds the next op.
 
 use super::{ReferenceKernel, Task, count_if};
 use model::{AnswerCondition, App, End, Loop, Op, Script, TaskId};
 
-/// Where a task continues when it leaves the branch or loop whose first op is this one: after its `else` or its `end`. Nested
-/// blocks are skipped whole.
+/// The op at which a task continues when it leaves the branch or loop whose first op is this one: the op after its `else` or its
+/// `end`. Nested blocks are skipped whole.
 fn behind_block(app: &App, id: TaskId, first: u16) -> u16 {
     let mut opened = 0_u16;
     for index in first..Script::MOST_OPS as u16 {
