@@ -1,4 +1,4 @@
-//! Branches and loops: scripts that act on last answers.
+//! Branches and loops: scripts that act on the last answer.
 ghost use Rattle.std.specs.Prelude.{◌≤◌, length};
 ghost use Rattle.model.specs.Scripts.{InRange};
 ghost use Rattle.random_apps.specs.Known.{AreKnown, IsKnown, IsKnownAnswer, IsKnownCondition, IsKnownValue};
@@ -20,7 +20,7 @@ impl Dice {
         Some(self.operand(number))
     }
 
-    /// A bound for answers: usually a small number, otherwise one near the printed ticks.
+    /// A bound for the last answer: usually a small number, otherwise one near the printed ticks.
     pub(super) fn bound(&mut self) -> u32 {
         if self.roll(4) == 0 {
             u32::MAX - self.roll(8)
@@ -77,7 +77,7 @@ impl Dice {
         }
     }
 
-    /// An op of a task that acts on last answers.
+    /// An op of a task that acts on the last answer.
     #[tactic(auto, using(crate::proofs::Known::known_expect))]
     pub(super) fn deciding_op(&mut self, objects: &[ObjectKind]) -> Op
         ensures range { InRange result }

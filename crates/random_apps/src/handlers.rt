@@ -123,8 +123,8 @@ impl Dice {
         }
     }
 
-    /// Whether the next op of a handler checks its last answer: often if tasks act on last answers too, and seldom in applications
-    /// of all sorts.
+    /// Whether the next op of a handler checks its last answer: often if tasks act on the last answer too, and seldom in
+    /// applications of all sorts.
     fn looks(&mut self) -> bool {
         match self.theme {
             Theme::Decision => self.roll(5) < 3,
@@ -200,7 +200,7 @@ impl Dice {
         }
     }
 
-    /// Up to five ops of a handler, or eight if it acts on last answers, notifies or calculates. An op that isn't allowed in its
+    /// Up to five ops of a handler, or eight if it acts on the last answer, notifies or calculates. An op that isn't allowed in its
     /// place is left out. Then the open branches end.
     fn isr_ops(
         &mut self,

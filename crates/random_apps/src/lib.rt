@@ -67,14 +67,14 @@ enum Theme {
     Gathering,
     /// They suspend and resume each other, and the scheduler.
     Suspension,
-    /// They act on last answers: their scripts have branches, and loops with a `break`. Handlers do the same. The tasks also
+    /// They act on the last answer: their scripts have branches, and loops with a `break`. Handlers do the same. The tasks also
     /// measure time.
     Decision,
     /// They open and close critical sections, and call on objects in between.
     Section,
     /// They notify each other, and wait for notifications. Handlers notify them.
     Signal,
-    /// They load and store variables, calculate, and pass on answers. Handlers do the same.
+    /// They load and store variables, calculate, and pass on the last answer. Handlers do the same.
     Calculation,
     /// They arm, disarm, raise and cancel handlers. Handlers do the same. Some handlers are disarmed at reset, or come only so many
     /// ticks apart.
@@ -150,7 +150,7 @@ impl Dice {
         Dice::of_theme(seed, Theme::Suspension)
     }
 
-    /// For applications whose tasks and handlers act on last answers.
+    /// For applications whose tasks and handlers act on the last answer.
     pub fn deciding(seed: u32) -> Self {
         Dice::of_theme(seed, Theme::Decision)
     }
@@ -332,9 +332,9 @@ impl Dice {
         }
     }
 
-    /// Up to eight ops; 24 if tasks act on last answers; 16 if they open critical sections, notify, calculate or raise handlers. An
-    /// op that isn't allowed in its place is left out. Then the script closes open sections, resumes a suspended scheduler, gives
-    /// back held mutexes, and ends open branches and loops.
+    /// Up to eight ops; 24 if tasks act on the last answer; 16 if they open critical sections, notify, calculate or raise handlers.
+    /// An op that isn't allowed in its place is left out. Then the script closes open sections, resumes a suspended scheduler,
+    /// gives back held mutexes, and ends open branches and loops.
     fn script(&mut self, alloc: Global, objects: &[ObjectKind]) -> Option<Script>
         ensures script { IfSome result (λ script. IsScript script) }
         ensures known { IfSome result (λ script. AreKnown objects.now script) }

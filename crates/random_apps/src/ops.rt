@@ -7,7 +7,7 @@ use super::{Dice, Role, Theme};
 use model::{Condition, GroupId, ObjectKind, Op, TaskId};
 
 impl Dice {
-    /// An op that reads the time. It may also measure time in applications of all sorts, and in those that act on last answers,
+    /// An op that reads the time. It may also measure time in applications of all sorts, and in those that act on the last answer,
     /// open critical sections or calculate.
     pub(super) fn clock_op(&mut self, objects: &[ObjectKind]) -> Op
         ensures range { InRange result }
