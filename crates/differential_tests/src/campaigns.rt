@@ -1,4 +1,4 @@
-//! Campaigns beside runs one by one, of many random applications.
+//! Campaigns compared with single runs, on many random applications.
 ghost use Rattle.std.specs.Prelude.{◌≡◌, ◌<◌, ◌≤◌, length, sum};
 ghost use Rattle.model.specs.Scripts.{most_points};
 
@@ -45,7 +45,7 @@ impl Seen {
         self.missed = self.missed.saturating_add(!reached as u32);
     }
 
-    // What another has seen too. Only what the test asks for in the end.
+    // Adds what another has seen. Only the counts that the test checks at the end are added.
     fn add(&mut self, other: &Seen) {
         self.rows = self.rows.saturating_add(other.rows);
         self.pass = self.pass.saturating_add(other.pass);
@@ -77,7 +77,7 @@ fn injection_at(dice: &mut Dice, step: u32) -> Option<Injection> {
     Some(Injection { step, handler })
 }
 
-/// How many injections a point has: as often one as several.
+/// The number of injections of a point: half of the time one, otherwise several.
 fn count_of(dice: &mut Dice) -> u32 {
     match dice.roll(4) {
         0 => 3,
@@ -86,7 +86,7 @@ fn count_of(dice: &mut Dice) -> u32 {
     }
 }
 
-/// How many steps lie between two injections of a point: none, a few, or more than rows are run before they are compared.
+/// The number of steps between two injections of a point: none, a few, or more than rows run before they are compared.
 fn distance_of(dice: &mut Dice) -> u32 {
     match dice.roll(4) {
         0 => 0,
@@ -95,7 +95,7 @@ fn distance_of(dice: &mut Dice) -> u32 {
     }
 }
 
-/// A point of the three handlers, now and then past the end of a run of this many steps.
+/// A point of the three handlers, occasionally past the end of a run of this many steps.
 fn point_of(dice: &mut Dice, alloc: Global, steps: u32) -> Option<Point> {
     let mut injections = Vec::new(alloc);
     let mut step = dice.roll(steps.saturating_add(3).max(1));
@@ -106,7 +106,7 @@ fn point_of(dice: &mut Dice, alloc: Global, steps: u32) -> Option<Point> {
     Point::new(injections.as_slice()).ok()
 }
 
-/// Twelve such points, in no order.
+/// Twelve such points, in no particular order.
 fn points_of(dice: &mut Dice, alloc: Global, steps: u32) -> Option<Vec<Point>> {
     let mut points = Vec::new(alloc);
     for _ in 0..12_u8 {
@@ -115,12 +115,12 @@ fn points_of(dice: &mut Dice, alloc: Global, steps: u32) -> Option<Vec<Point>> {
     Some(points)
 }
 
-/// The run with this plan, alone.
+/// Runs this plan on its own.
 fn alone(rt: &impl Abort, alloc: Global, app: &App, plan: &Plan) -> Run {
     kernel::run(alloc, app, plan, app.limits(), &mut Meter::new()).expect(rt, "memory")
 }
 
-/// Whether a point is reached: the base run gets beyond the step of its first injection, and that can come there.
+/// Whether a point is reached: the base run goes past the step of its first injection, and that injection can come there.
 fn is_reached(alloc: Global, app: &App, point: &Point) -> bool {
     let limits = app.limits();
     let first = point.first();
@@ -134,7 +134,7 @@ fn is_reached(alloc: Global, app: &App, point: &Point) -> bool {
     reference.end(app, &limits).is_none() && reference.can_come(first.handler)
 }
 
-/// The text of the row of a point, which is run alone.
+/// The text of the row of a point, which is run on its own.
 fn row_of(
     rt: &impl Abort,
     alloc: Global,
@@ -163,7 +163,7 @@ fn row_of(
     text
 }
 
-/// How many steps lie between two states of the base run that are kept.
+/// The number of steps between two checkpoints of the base run.
 fn stride_of(dice: &mut Dice) -> u32
     ensures some { 0 < result }
     ensures few { result ≤ 65536 }
@@ -177,7 +177,7 @@ fn stride_of(dice: &mut Dice) -> u32
     }
 }
 
-/// How many workers, as often one as several.
+/// The number of workers, from one to 64.
 fn workers_of(dice: &mut Dice) -> usize
     ensures some { 0 < result }
     ensures few { result ≤ 64 }
@@ -192,7 +192,7 @@ fn workers_of(dice: &mut Dice) -> usize
     }
 }
 
-/// One of the manners.
+/// A random manner.
 fn manner_of(dice: &mut Dice) -> Manner {
     let stride = stride_of(dice);
     let workers = workers_of(dice);
@@ -244,12 +244,12 @@ fn report_in_blocks<R: Abort + Threads + Wait + Sync>(
     }
 }
 
-/// In how many steps the base run ends.
+/// The number of steps of the base run.
 fn base_steps(rt: &impl Abort, alloc: Global, app: &App) -> u32 {
     alone(rt, alloc, app, &Plan::none(alloc)).steps
 }
 
-/// The report over these points, each of whose rows is run alone.
+/// The report over these points, with each row run on its own.
 fn rows_alone(
     rt: &impl Abort,
     alloc: Global,
@@ -280,8 +280,8 @@ fn fail(rt: &impl Abort, alloc: Global, seed: u32, app: &App, points: &[Point], 
     panic!(rt; "seed {seed}, {manner:?}: another report, of points{told} on this file\n{file}");
 }
 
-/// For applications whose tasks crowd about objects or raise handlers, and half as often for those whose tasks go by last answers,
-/// open critical sections, calculate, or notify each other.
+/// For applications whose tasks crowd around objects or raise handlers, and half as often for those whose tasks act on the last
+/// answer, open critical sections, calculate, or notify each other.
 fn dice_of(seed: u32) -> Dice {
     match seed % 8 {
         0 => Dice::deciding(seed),
@@ -293,7 +293,7 @@ fn dice_of(seed: u32) -> Dice {
     }
 }
 
-/// Compares the campaign of an application with its rows one by one.
+/// Compares the campaign of an application with its rows, run one by one.
 fn compare<R: Abort + Threads + Wait + Sync>(rt: &R, alloc: Global, seed: u32, seen: &mut Seen) {
     let mut dice = dice_of(seed);
     let app = dice.app(alloc).expect(rt, "memory");
@@ -318,7 +318,7 @@ fn a_campaign_is_its_rows_one_by_one(rt: HostRuntime) {
     assert!(rt; seen.stuck > 500 && seen.pass > 500, "{seen:?}");
 }
 
-// A task that waits at an empty queue for a tick, and a handler that sends to the queue and receives what it sent.
+// A task that waits for one tick at an empty queue, and a handler that sends to the queue and receives the item again.
 const ONE_RECEIVE: &str = "
 queue = [{ name = 'q', length = 1 }]
 handler = [{ name = 'h', ops = ['send q 7', 'receive q'] }]
@@ -356,7 +356,7 @@ const STEPS: [u32; 7] = [0, 2, 2, 3, 5, 6, 7];
 
 const DIVISIONS: [&[usize]; 3] = [&[7], &[1, 1, 1, 1, 1, 1, 1], &[3, 4]];
 
-/// Compares the report, made in this manner over blocks of these lengths, with what is wanted.
+/// Compares the report, made in this manner over blocks of these lengths, with the expected one.
 fn compare_made<R: Abort + Threads + Wait + Sync>(
     rt: &R,
     alloc: Global,

@@ -1,4 +1,4 @@
-//! An application as a file, so that one can run it.
+//! An application as a file, so that it can be run.
 
 use model::{
     Access, AnswerCondition, App, Condition, HandlerDefinition, HandlerId, Injection, Interrupt,
@@ -59,7 +59,7 @@ fn push_access(
     }
 }
 
-// A number, or another word where there is none.
+// A number, or another word if there is none.
 fn push_number_or(file: &mut String, number: Option<u32>, none: &str) -> Result<(), AllocError> {
     match number {
         Some(number) => push_number(file, number),
@@ -67,7 +67,7 @@ fn push_number_or(file: &mut String, number: Option<u32>, none: &str) -> Result<
     }
 }
 
-// A value, or `none` where there is none, as a word.
+// A value, or `none` if there is none, as a word.
 fn push_value_or_none(file: &mut String, value: Option<Value>) -> Result<(), AllocError> {
     match value {
         Some(value) => push_value(file, value),
@@ -75,7 +75,7 @@ fn push_value_or_none(file: &mut String, value: Option<Value>) -> Result<(), All
     }
 }
 
-// What a script or a handler asks of the last answer, as words.
+// A condition on the last answer, of a script or a handler, as words.
 fn push_answer_condition(file: &mut String, condition: AnswerCondition) -> Result<(), AllocError> {
     match condition {
         AnswerCondition::Is(wanted) => push_value_or_none(file, wanted),
@@ -94,7 +94,7 @@ fn push_answer_condition(file: &mut String, condition: AnswerCondition) -> Resul
     }
 }
 
-// The words of an op on values after its first.
+// The words of an op on values, after the first word.
 fn push_rest_on_values(file: &mut String, op: ValueOp) -> Result<(), AllocError> {
     match op {
         ValueOp::Load(variable) => push_name(file, "x", variable.number),
@@ -106,7 +106,7 @@ fn push_rest_on_values(file: &mut String, op: ValueOp) -> Result<(), AllocError>
     }
 }
 
-// The words of an op on a handler after its first.
+// The words of an op on a handler, after the first word.
 fn push_rest_on_source(
     file: &mut String,
     app: &App,
@@ -120,7 +120,7 @@ fn push_rest_on_source(
     }
 }
 
-// For which bits a call waits, as words.
+// The bits that a call waits for, as words.
 fn push_condition(file: &mut String, condition: Condition) -> Result<(), AllocError> {
     push_number(file, condition.mask)?;
     push_word(file, if condition.all { "all" } else { "any" })?;
@@ -145,7 +145,7 @@ fn push_action(file: &mut String, action: NotifyAction<Value>) -> Result<(), All
     }
 }
 
-// The words of a notify behind its first, of a task or of a handler.
+// The words of a notify, after the first word. The notify is an op of a task or of a handler.
 fn push_notify(
     file: &mut String,
     app: &App,
@@ -161,7 +161,7 @@ fn push_masks(file: &mut String, masks: NotificationMasks) -> Result<(), AllocEr
     push_number(file, masks.exit)
 }
 
-// For what a call waits by its notification, as words.
+// What a call waits for with its notification, as words.
 fn push_notification_wait(file: &mut String, wait: NotificationWait) -> Result<(), AllocError> {
     match wait {
         NotificationWait::Take(true) => push_word(file, "clear"),
@@ -170,7 +170,7 @@ fn push_notification_wait(file: &mut String, wait: NotificationWait) -> Result<(
     }
 }
 
-// The words of an op on notifications behind its first. Any other has none.
+// The words of an op on notifications, after the first word. Any other op has none.
 fn push_rest_on_notification(file: &mut String, app: &App, op: &Op) -> Result<(), AllocError> {
     match *op {
         Op::Notify(task, action) => push_notify(file, app, task, action),
@@ -183,7 +183,7 @@ fn push_rest_on_notification(file: &mut String, app: &App, op: &Op) -> Result<()
     }
 }
 
-// The words of an op on an object behind its first. Any other op has none.
+// The words of an op on an object, after the first word. Any other op has none.
 fn push_rest_on_object(file: &mut String, op: &Op) -> Result<(), AllocError> {
     match *op {
         Op::Await(object, access, ticks) => {
@@ -199,7 +199,7 @@ fn push_rest_on_object(file: &mut String, op: &Op) -> Result<(), AllocError> {
     }
 }
 
-// Those of an op on an event group. Any other is one on an object, or has none.
+// The words of an op on an event group, after the first word. Any other op is on an object, or has none.
 fn push_rest_on_group(file: &mut String, op: &Op) -> Result<(), AllocError> {
     match *op {
         Op::SetBits(group, mask) | Op::ClearBits(group, mask) => {
@@ -216,7 +216,7 @@ fn push_rest_on_group(file: &mut String, op: &Op) -> Result<(), AllocError> {
     }
 }
 
-// Those of any op.
+// The words of any op, after the first word.
 fn push_rest(file: &mut String, app: &App, op: &Op) -> Result<(), AllocError> {
     match *op {
         Op::Work(number) | Op::Delay(number) | Op::DelayUntil(number) => push_number(file, number),
@@ -241,7 +241,7 @@ fn push_op(file: &mut String, app: &App, op: &Op) -> Result<(), AllocError> {
     file.push_str("', ")
 }
 
-// The words of a handler's op behind its first.
+// The words of a handler's op, after the first word.
 fn push_isr_rest(file: &mut String, app: &App, op: &IsrOp) -> Result<(), AllocError> {
     match *op {
         IsrOp::Mark(value) => push_value(file, value),
@@ -267,7 +267,7 @@ fn push_isr_op(file: &mut String, app: &App, op: &IsrOp) -> Result<(), AllocErro
     file.push_str("', ")
 }
 
-// The object of this index, whose name is a letter and the index. A semaphore that is as a binary one is shown as one.
+// The object at this index, whose name is a letter and the index. A semaphore that equals a binary one is shown as a binary one.
 fn push_object(file: &mut String, index: usize, kind: ObjectKind) -> Result<(), AllocError> {
     match kind {
         ObjectKind::Queue(length) => {
@@ -296,7 +296,7 @@ fn push_task(file: &mut String, app: &App, task: &TaskDefinition) -> Result<(), 
     file.push_str("]\n")
 }
 
-// Whether a handler is armed at reset, and how far apart it comes, where that isn't so by default.
+// Whether a handler is armed at reset, and its minimum number of ticks between arrivals, if they differ from the defaults.
 fn push_arrival(file: &mut String, handler: &HandlerDefinition) -> Result<(), AllocError> {
     if !handler.armed() {
         file.push_str("armed = false\n")?;
@@ -328,7 +328,7 @@ fn push_interrupt(file: &mut String, app: &App, interrupt: &Interrupt) -> Result
     write!(file, "\n[[interrupt]]\ntick = {tick}\nhandler = '{name}'\n")
 }
 
-// When the run begins and ends, and whether idle sleeps.
+// When the run begins and ends, and whether the application is tickless.
 fn push_head(file: &mut String, app: &App) -> Result<(), AllocError> {
     let start = app.start();
     let limits = app.limits();
@@ -344,7 +344,7 @@ fn push_head(file: &mut String, app: &App) -> Result<(), AllocError> {
     Ok(())
 }
 
-// All but the daemon's queue, which is the last one where there is a daemon.
+// All objects but the daemon's queue, which is the last one if there is a daemon.
 fn push_objects(file: &mut String, app: &App) -> Result<(), AllocError> {
     let of_daemon = app.daemon().is_some() as usize;
     let of_file = app.objects().len().saturating_sub(of_daemon);
@@ -386,7 +386,7 @@ fn push_daemon(file: &mut String, daemon: &TaskDefinition, length: u16) -> Resul
     )
 }
 
-// The length of the last object, which is the daemon's queue where there is a daemon.
+// The length of the last object, which is the daemon's queue if there is a daemon.
 fn command_length(app: &App) -> u16 {
     match app.objects().last() {
         Some(ObjectKind::Queue(length)) => *length,
@@ -394,7 +394,7 @@ fn command_length(app: &App) -> u16 {
     }
 }
 
-// The tasks of the file, and behind them the daemon, if there is one.
+// The tasks of the file, and after them the daemon, if there is one.
 fn push_tasks(file: &mut String, app: &App) -> Result<(), AllocError> {
     let daemon = app.daemon().map(|task| task.number as usize);
     for (number, task) in app.tasks().iter().enumerate() {
@@ -441,7 +441,7 @@ pub(crate) fn plan_text(alloc: Global, app: &App, plan: &Plan) -> Result<String,
     Ok(text)
 }
 
-/// Points as words, with a comma behind each.
+/// Points as words, with a comma after each.
 pub(crate) fn points_text(
     alloc: Global,
     app: &App,

@@ -11,13 +11,13 @@ use std::sync::Wait;
 use std::sync::atomic::{AtomicU64, Ordering};
 use std::thread::Threads;
 
-// How often a gate looks at most whether another block has entered.
+// How many times a gate checks at most whether another block was entered.
 const TURNS: u64 = 100_000_000;
 
-// How many of the kinds are ends.
+// The number of kinds that are ends.
 const ENDS: usize = 6;
 
-/// Keeps block 0 until another block has entered, and notes what the last block was handed.
+/// Keeps block 0 waiting until another block is entered. Stores how many rows were counted when the last block was entered.
 #[derive(Drop)]
 struct Meeting {
     other: usize,
@@ -51,7 +51,7 @@ impl Meeting {
     }
 }
 
-// How many rows are counted.
+// The number of rows that are counted.
 fn rows_in(seen: &Counts) -> u64 {
     let mut rows = 0u64;
     for count in &seen.kinds[..ENDS] {
@@ -72,13 +72,13 @@ impl Gate for Meeting {
     }
 }
 
-/// Keeps each worker in its first block until all workers are in one.
+/// Keeps each worker in its first block until every worker is in one.
 #[derive(Drop)]
 struct Assembling {
     workers: u64,
     // A bit for each worker that has entered a block.
     present: AtomicU64,
-    // How many workers have seen all of them.
+    // The number of workers that have seen all workers present.
     met: AtomicU64,
 }
 
@@ -119,8 +119,8 @@ impl Gate for Assembling {
 // The steps of the points.
 const STEPS: [u32; 7] = [0, 2, 2, 3, 5, 6, 7];
 
-// Makes the campaign of an application over seven points, cut into blocks of these lengths, and compares how many rows it has and
-// how many seats come back.
+// Runs the campaign of an application over seven points, in blocks of these lengths. Checks how many rows it has and how many seats
+// come back.
 fn run<R: Abort + Threads + Wait + Sync, G: Gate + Sync>(
     rt: &R,
     alloc: Global,
@@ -153,7 +153,7 @@ fn two_workers_are_in_two_blocks_at_once(rt: HostRuntime) {
     assert!(rt; gate.has_met());
 }
 
-// Each worker, of this many, is in a block while all others are.
+// Each of this many workers is in a block while all the others are.
 fn workers_assemble<R: Abort + Threads + Wait + Sync>(rt: &R, alloc: Global, workers: usize)
     requires some { 0 < workers }
     requires few { workers ≤ 64 }

@@ -1,5 +1,5 @@
-//! The kernel beside the reference kernel, which follows the definitions line by line, on many random applications. There is
-//! nothing here but tests.
+//! The kernel compared with the reference kernel, which follows the definitions line by line, on many random applications. This
+//! crate contains only tests.
 #![tactic(auto)]
 
 #[cfg(test)]

@@ -1,4 +1,4 @@
-//! What the explorer finds among all placements of interrupts, beside runs of the reference kernel one by one.
+//! What the explorer finds among all placements of interrupts, compared with single runs of the reference kernel.
 ghost use Rattle.std.specs.Prelude.{◌≤◌};
 
 use crate::file::file_of;
@@ -9,14 +9,14 @@ use random_apps::Dice;
 use std::alloc::Global;
 use std::process::Abort;
 
-/// How many placements were compared, and how many ends.
+/// The number of placements that were compared, and the number of ends.
 #[derive(Clone, Copy, Debug, Default)]
 struct Compared {
     placements: u128,
     ends: usize,
 }
 
-/// Whether a placement is of these injections.
+/// Whether the least placement found consists of these injections.
 fn is_of(found: &Found, injections: &[Injection]) -> bool {
     let least = found.least.as_slice();
     least.len() == injections.len()
@@ -24,7 +24,7 @@ fn is_of(found: &Found, injections: &[Injection]) -> bool {
             && one.handler == other.handler)
 }
 
-/// Whether both have found the same.
+/// Whether both found the same.
 fn is_same(found: &[Found], wanted: &Search<'_>) -> bool {
     for (one, other) in found.iter().zip(wanted.found.iter()) {
         let is_same_run = one.end == other.end && one.steps == other.steps;
@@ -36,7 +36,7 @@ fn is_same(found: &[Found], wanted: &Search<'_>) -> bool {
     found.len() == wanted.found.len()
 }
 
-/// Compares both for an application, in runs of so many steps.
+/// Compares both for an application, with runs of at most this many steps.
 fn compare(
     rt: &impl Abort,
     alloc: Global,
@@ -62,7 +62,7 @@ fn compare(
     }
 }
 
-/// For applications whose tasks raise handlers, and as often for those whose tasks open critical sections.
+/// For applications whose tasks raise handlers, and equally often for those whose tasks open critical sections.
 fn dice_of(seed: u32) -> Dice {
     if seed % 2 == 0 {
         Dice::raising(seed)

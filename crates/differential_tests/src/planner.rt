@@ -1,4 +1,4 @@
-//! Plans that are made while the reference kernel runs, so that many of their injections lie inside calls.
+//! Plans that are made while the reference kernel runs, so that many of their injections fall inside calls.
 
 use model::{App, End, HandlerId, Injection, Limits};
 use random_apps::Dice;
@@ -17,7 +17,7 @@ pub(crate) struct Injections {
     pub(crate) suspended: usize,
     /// Those while a critical section is open.
     pub(crate) critical: usize,
-    /// Those while the daemon runs; those of them in its own window, while its call has locked its queue.
+    /// Those while the daemon runs; those of them while its call has locked its own queue.
     pub(crate) beside_daemon: usize,
     pub(crate) in_its_window: usize,
     /// Those past the end of the run.
@@ -28,10 +28,10 @@ pub(crate) struct Injections {
 #[derive(Drop)]
 pub(crate) struct Planner {
     dice: Dice,
-    /// Before how many steps handlers may still come.
+    /// The number of steps before which handlers may still come.
     left: u32,
-    /// Handlers come before one in this many steps inside calls, while the scheduler is suspended and while a critical section is
-    /// open, and before one of three times as many others.
+    /// Inside calls, while the scheduler is suspended and in critical sections, handlers come before one step in this many.
+    /// Otherwise they come before one in three times as many.
     rarity: u32,
     /// Whether ticks are among the injections.
     has_ticks: bool,
@@ -52,7 +52,7 @@ impl Planner {
         }
     }
 
-    /// A planner that makes one injection or a few, or many.
+    /// A planner that makes one injection, a few, or many.
     pub(crate) fn new(alloc: Global, seed: u32) -> Self {
         let mut dice = Dice::new(seed);
         let left = match dice.roll(4) {
@@ -79,8 +79,9 @@ impl Planner {
         }
     }
 
-    /// How many interrupts come before the next step. Some always come where tasks wait at both sides of the locked object, and
-    /// where a task of higher priority is suspended while the running one is about to decide whether it waits.
+    /// How many interrupts come before the next step. While any are left, at least one comes in two cases. In the first, tasks wait
+    /// at both sides of the locked object. In the second, a task of higher priority is suspended while the running task is about
+    /// to decide whether it waits.
     fn roll_count(&mut self, reference: &ReferenceKernel) -> u32 {
         let is_held = reference.is_scheduler_suspended() || reference.is_critical();
         let sides = if reference.has_both_at_lock() || reference.has_suspended_above_decision() {
@@ -116,7 +117,7 @@ impl Planner {
         self.count_daemon(reference, app);
     }
 
-    /// Counts one that comes while the daemon runs.
+    /// Counts an injection that comes while the daemon runs.
     fn count_daemon(&mut self, reference: &ReferenceKernel, app: &App) {
         let is_beside = reference.is_daemon_running(app);
         let is_inside = is_beside && reference.is_locked();
@@ -126,7 +127,7 @@ impl Planner {
         *inside = inside.saturating_add(is_inside as usize);
     }
 
-    /// Which interrupt is injected next: a handler or, if ticks are among the injections, the tick as often as all of these.
+    /// Which interrupt is injected next: a handler. If ticks are among the injections, half of the time it is the tick.
     fn roll_source(&mut self, app: &App) -> HandlerId {
         let tick = app.handlers().len().min(App::MOST_HANDLERS);
         if self.has_ticks && self.dice.roll(2) == 0 {
@@ -152,7 +153,7 @@ impl Planner {
         self.injections.as_slice().get(old..)
     }
 
-    /// Makes up to two injections past the end of the run, where more may come.
+    /// Makes up to two injections past the end of the run, if more may come.
     fn plan_late(&mut self, steps: u32, app: &App) -> Option<()> {
         let mut step = steps;
         if self.left == 0 {
@@ -167,7 +168,7 @@ impl Planner {
         Some(())
     }
 
-    /// Runs the reference kernel to its end, and plans along its way; `None` if no memory is left.
+    /// Runs the reference kernel to its end, and makes the plan along the way; `None` if memory runs out.
     pub(crate) fn run(
         &mut self,
         reference: &mut ReferenceKernel,

@@ -1,4 +1,4 @@
-//! Runs of the kernel beside runs of the reference kernel, on many small applications.
+//! Runs of the kernel compared with runs of the reference kernel, on many small applications.
 
 use crate::file::{file_of, plan_text};
 use crate::planner::Planner;
@@ -19,7 +19,7 @@ fn fail(rt: &impl Abort, alloc: Global, seed: u32, app: &App, plan: &Plan, what:
     );
 }
 
-/// Runs both, the reference kernel first, with the plan that is made meanwhile, and compares what they report.
+/// Runs the reference kernel while the plan is made, and then the kernel with this plan. Compares what they report.
 fn compare(
     rt: &impl Abort,
     alloc: Global,
@@ -55,12 +55,12 @@ fn compare(
     seen.count(&reference, app, has_wrapped, &made);
 }
 
-/// Which applications are compared, and in how many runs handlers are injected.
+/// Which applications are compared, and in how many of the runs handlers are injected.
 #[derive(Clone, Copy)]
 enum Sort {
-    /// Of all sorts, with base interrupts alone.
+    /// Of all sorts, with base interrupts only.
     Any,
-    /// Two of three crowd about objects. Handlers are injected in each run.
+    /// In two of three, tasks crowd around objects. Handlers are injected in each run.
     Crowd,
     /// Tasks contend for mutexes. Handlers are injected in every other run.
     Contest,
@@ -68,7 +68,7 @@ enum Sort {
     Gathering,
     /// Tasks are suspended. Handlers are injected in three of four runs.
     Suspension,
-    /// Tasks and handlers go by what was answered. Handlers are injected in every other run.
+    /// Tasks and handlers act on the last answer. Handlers are injected in every other run.
     Decision,
     /// Tasks open critical sections. Handlers are injected in three of four runs.
     Section,
@@ -76,7 +76,7 @@ enum Sort {
     Signal,
     /// Tasks and handlers calculate. Handlers are injected in three of four runs.
     Calculation,
-    /// Tasks crowd about objects, wait for bits or for notifications, are suspended, or open critical sections. Ticks and handlers
+    /// Tasks crowd around objects, wait for bits or for notifications, are suspended, or open critical sections. Ticks and handlers
     /// are injected in each run.
     Tick,
     /// Tasks and handlers arm, disarm and raise handlers. Handlers are injected in each run, and ticks in every other one.
@@ -141,7 +141,7 @@ fn seen_in(rt: &impl Abort, alloc: Global, sort: Sort) -> Seen {
     seen
 }
 
-/// Fails the test where the runs have too little of what they are for.
+/// Fails the test if the runs cover too little of what they must.
 fn has_enough(rt: &impl Abort, seen: &Seen, is_so: bool) {
     assert!(rt; is_so, "{seen:?}");
 }
@@ -411,7 +411,7 @@ fn has_same_rest(one: &App, other: &App) -> bool {
         && one.daemon() == other.daemon()
 }
 
-/// Loads the file that shows an application, and compares what it describes.
+/// Loads the file that shows an application, and compares the result with the application.
 fn load_again(rt: &impl Abort, alloc: Global, app: &App) {
     let file = file_of(alloc, app).expect(rt, "memory");
     let back = loaded(rt, alloc, file.as_str());

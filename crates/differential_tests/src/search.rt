@@ -1,18 +1,17 @@
-//! All placements of interrupts, each of whose runs the reference kernel makes from reset.
+//! All placements of interrupts. The reference kernel runs each of them from reset.
 
 use model::{App, End, HandlerId, Injection, Limits};
 use reference_kernel::ReferenceKernel;
 use std::alloc::Global;
 
-/// A placement, and in how many steps its run ends.
+/// A placement, and the number of steps of its run.
 #[derive(Drop)]
 struct Placed {
     injections: Vec<Injection>,
     steps: u32,
 }
 
-/// An end that some placements have: how many they are, and the first of them that was met, with the steps and the ticks of its
-/// run.
+/// An end that some placements share: how many they are, and the first of them that was found, with the steps and ticks of its run.
 #[derive(Drop)]
 pub(crate) struct Shared {
     pub(crate) end: End,
@@ -22,18 +21,18 @@ pub(crate) struct Shared {
     pub(crate) ticks: u64,
 }
 
-/// A search through the placements of an application, whose runs have these limits.
+/// A search through the placements of an application. Its runs have these limits.
 #[derive(Drop)]
 pub(crate) struct Search<'a> {
     alloc: Global,
     app: &'a App,
     limits: Limits,
-    /// Those of as many injections as there are in the longest so far, the least first.
+    /// The placements with the most injections so far, the least first.
     longest: Vec<Placed>,
     pub(crate) found: Vec<Shared>,
 }
 
-/// Those of these injections that come before this step.
+/// The injections among these that come before this step.
 fn at_step(alloc: Global, injections: &[Injection], step: u32) -> Option<Vec<Injection>> {
     let mut here = Vec::new(alloc);
     for injection in injections {
@@ -52,7 +51,7 @@ fn with_one(alloc: Global, injections: &[Injection], one: Injection) -> Option<V
 }
 
 impl<'a> Search<'a> {
-    /// A search that has only met the placement of no injection; `None` where no memory is left.
+    /// A search that has met only the placement without injections; `None` if memory runs out.
     fn begin(alloc: Global, app: &'a App, limits: Limits) -> Option<Self> {
         let mut search = Search {
             alloc,
@@ -80,7 +79,7 @@ impl<'a> Search<'a> {
         Some(reference)
     }
 
-    /// Counts a placement whose run ends so.
+    /// Counts a placement by how its run ends.
     fn count(&mut self, injections: &[Injection], reference: &ReferenceKernel) -> Option<()> {
         let end = reference.end(self.app, &self.limits)?;
         for shared in self.found.iter_mut() {
@@ -110,7 +109,7 @@ impl<'a> Search<'a> {
         longer.push(Placed { injections, steps }).ok()
     }
 
-    /// Each placement of these injections and one more before this step.
+    /// Meets each placement that consists of these injections and one more before this step.
     fn extend_at(
         &mut self,
         injections: &[Injection],
@@ -126,7 +125,7 @@ impl<'a> Search<'a> {
         Some(())
     }
 
-    /// Each placement that has one injection more than this one, at its last step or later.
+    /// Meets each placement that has one injection more than this one, at the step of its last injection or later.
     fn extend(
         &mut self,
         placed: &Placed,
@@ -143,7 +142,7 @@ impl<'a> Search<'a> {
         Some(())
     }
 
-    /// Those of one injection more than the longest so far.
+    /// Meets the placements with one injection more than the longest so far.
     fn go_on(&mut self, sources: &[HandlerId]) -> Option<()> {
         let mut longer = Vec::new(self.alloc);
         let longest = std::mem::replace(&mut self.longest, Vec::new(self.alloc));
@@ -155,8 +154,8 @@ impl<'a> Search<'a> {
     }
 }
 
-/// What all placements of at most so many injections of these interrupts come to, in the order in which their ends are met first:
-/// with fewer injections before more, and otherwise the lesser first. `None` where no memory is left.
+/// How the runs of all placements of at most this many injections of these interrupts end, in the order in which the ends are
+/// found. Placements with fewer injections come first, and among those with the same number the lesser. `None` if memory runs out.
 pub(crate) fn all_placements<'a>(
     alloc: Global,
     app: &'a App,

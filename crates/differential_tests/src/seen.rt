@@ -1,51 +1,51 @@
-//! What the runs have of what they are for.
+//! How much the runs cover of what they must.
 
 use crate::planner::Injections;
 use model::{App, End};
 use reference_kernel::ReferenceKernel;
 
-/// How many of the runs have what they are for.
+/// For each event that the runs must cover, the number of runs in which it occurs.
 #[derive(Debug, Default, Drop)]
 pub(crate) struct Seen {
     /// The tick wrapped.
     pub(crate) wraps: usize,
-    /// A call or a handler woke one who waited.
+    /// A call or a handler woke a waiting task.
     pub(crate) wakes: usize,
     /// A wait ended at its deadline.
     pub(crate) timeouts: usize,
     /// A task whose call had locked the queue was Awake.
     pub(crate) own_awakenings: usize,
-    /// Another was.
+    /// Another task was Awake.
     pub(crate) other_awakenings: usize,
     /// Tasks of both waiting lists were Awake when their queue was unlocked.
     pub(crate) mixed_unlocks: usize,
     /// A handler gave a semaphore that was locked.
     pub(crate) locked_gives: usize,
-    /// The holder of a mutex was raised by one who waits.
+    /// A waiting task raised the holder of a mutex.
     pub(crate) raises: usize,
-    /// A raised holder gave one of several mutexes back.
+    /// A raised holder gave back one of several mutexes.
     pub(crate) kept_raises: usize,
-    /// A holder fell when a wait was in vain.
+    /// A holder's priority fell after a wait timed out.
     pub(crate) falls: usize,
-    /// It did, and kept the priority of another who waits.
+    /// It fell only to the priority of another waiting task.
     pub(crate) partial_falls: usize,
-    /// A set met two who waited, or more.
+    /// A set met two waiting tasks or more.
     pub(crate) crowded_sets: usize,
-    /// It met one or more who asked to clear.
+    /// A set met at least one task that asked to clear.
     pub(crate) clearing_sets: usize,
     /// A wait for bits ended at its deadline.
     pub(crate) bit_timeouts: usize,
-    /// A task was suspended that waited.
+    /// A waiting task was suspended.
     pub(crate) suspended_waits: usize,
-    /// One was whose call was to decide next.
+    /// A task was suspended when its call was about to decide.
     pub(crate) suspended_decisions: usize,
-    /// One was for which bits were kept.
+    /// A task was suspended while bits were kept for it.
     pub(crate) suspended_answers: usize,
     /// A task was resumed in the middle of a call.
     pub(crate) resumed_calls: usize,
-    /// One was while an object was locked.
+    /// A task was resumed while an object was locked.
     pub(crate) locked_resumes: usize,
-    /// One was before the end of a sleep by `delay_until`.
+    /// A task was resumed before the end of a sleep by `delay_until`.
     pub(crate) cut_off_sleeps: usize,
     /// A tick came while the scheduler was suspended.
     pub(crate) held_ticks: usize,
@@ -53,7 +53,7 @@ pub(crate) struct Seen {
     pub(crate) injected_ticks: usize,
     pub(crate) ticks_in_calls: usize,
     pub(crate) pending_ticks: usize,
-    /// A base interrupt came at such a tick.
+    /// A base interrupt came at a tick while the scheduler was suspended.
     pub(crate) held_interrupts: usize,
     /// A task became Ready while the scheduler was suspended.
     pub(crate) held_wakes: usize,
@@ -65,80 +65,80 @@ pub(crate) struct Seen {
     pub(crate) while_critical: usize,
     pub(crate) not_critical: usize,
     pub(crate) ended_critical: usize,
-    /// A task opened a critical section; one inside another.
+    /// A task opened a critical section; opened one inside another.
     pub(crate) sections: usize,
     pub(crate) inner_sections: usize,
-    /// A handler was injected while a section was open; one that was pending already.
+    /// A handler was injected while a section was open; it was already pending.
     pub(crate) pending_handlers: usize,
     pub(crate) pending_again: usize,
-    /// Two or more pending handlers came before a step; one or more did while the scheduler was suspended.
+    /// Two or more pending handlers came before a step; at least one came while the scheduler was suspended.
     pub(crate) served_together: usize,
     pub(crate) served_in_holds: usize,
-    /// The run ended with a handler pending.
+    /// The run ended while a handler was pending.
     pub(crate) ends_while_pending: usize,
-    /// A command came to the daemon.
+    /// A command reached the daemon.
     pub(crate) commands: usize,
-    /// One found no room.
+    /// A command found no room.
     pub(crate) refused_commands: usize,
-    /// One came in the daemon's own window.
+    /// A command came while the daemon's own call had locked the queue.
     pub(crate) window_commands: usize,
     /// The daemon set bits.
     pub(crate) sets_by_daemon: usize,
-    /// It cleared some.
+    /// The daemon cleared bits.
     pub(crate) clears_by_daemon: usize,
     /// The run passed while the daemon ran.
     pub(crate) passes_beside_daemon: usize,
     /// Idle let several ticks pass in a step.
     pub(crate) jumps: usize,
-    /// It did so past the wrap of the tick.
+    /// Such a jump crossed the wrap of the tick.
     pub(crate) wrapping_jumps: usize,
-    /// It did so up to a base interrupt.
+    /// Such a jump ended at a base interrupt.
     pub(crate) jumps_to_interrupt: usize,
-    /// It did so until a task woke.
+    /// Such a jump ended when a task woke.
     pub(crate) jumps_to_wake: usize,
-    /// It did so up to the limit.
+    /// Such a jump ended at the limit.
     pub(crate) jumps_to_limit: usize,
-    /// It did so up to tick 0.
+    /// Such a jump ended at tick 0.
     pub(crate) jumps_to_zero: usize,
     /// The condition of an `if` held.
     pub(crate) taken_branches: usize,
-    /// It didn't.
+    /// The condition of an `if` did not hold.
     pub(crate) skipped_branches: usize,
-    /// A first branch came to its `else`.
+    /// A first branch reached its `else`.
     pub(crate) skipped_others: usize,
     /// A `break` left a loop.
     pub(crate) breaks: usize,
-    /// One left a loop for ever.
+    /// A `break` left a loop that runs forever.
     pub(crate) breaks_for_ever: usize,
-    /// One left a loop inside another.
+    /// A `break` left a loop inside another.
     pub(crate) inner_breaks: usize,
-    /// A loop for ever began its next turn.
+    /// A loop that runs forever began its next turn.
     pub(crate) turns_for_ever: usize,
-    /// A script came to its end by an `if`, an `else` or a `break`.
+    /// A script reached its end by an `if`, an `else` or a `break`.
     pub(crate) ending_jumps: usize,
     /// The condition of a handler's `expect` held.
     pub(crate) passed_checks: usize,
-    /// It didn't.
+    /// The condition of a handler's `expect` did not hold.
     pub(crate) failed_checks: usize,
-    /// A check failed in a step in which one had failed before.
+    /// A check failed after another check had failed in the same step.
     pub(crate) later_failures: usize,
     /// The condition of a handler's `if` held.
     pub(crate) taken_by_handlers: usize,
-    /// It didn't.
+    /// The condition of a handler's `if` did not hold.
     pub(crate) skipped_by_handlers: usize,
     /// A task noted the time.
     pub(crate) stamps: usize,
-    /// Ticks had passed since then.
+    /// Some ticks had passed since then.
     pub(crate) measures: usize,
-    /// More had than an answer can be.
+    /// More ticks had passed than an answer can hold.
     pub(crate) long_measures: usize,
-    /// The run passed, and an endless task had not come to its end.
+    /// The run passed although an endless task had not reached its end.
     pub(crate) passes_beside_endless: usize,
-    /// Only endless tasks were there, and all were Ended.
+    /// There were only endless tasks, and all of them were Ended.
     pub(crate) endless_alone_ended: usize,
     /// A task stored a variable.
     pub(crate) stores: usize,
-    /// A handler did.
+    /// A handler stored a variable.
     pub(crate) stores_by_handlers: usize,
     /// A task calculated.
     pub(crate) results: usize,
@@ -146,73 +146,73 @@ pub(crate) struct Seen {
     pub(crate) values_in_holds: usize,
     /// An op of a task had no value to work with.
     pub(crate) valueless_ops: usize,
-    /// One of a handler had none.
+    /// An op of a handler had no value to work with.
     pub(crate) valueless_by_handlers: usize,
     /// A task would have divided by a variable that was 0.
     pub(crate) zero_divisors: usize,
-    /// A task asked for a variable in a condition.
+    /// A condition of a task named a variable.
     pub(crate) named_conditions: usize,
-    /// A handler did.
+    /// A condition of a handler named a variable.
     pub(crate) named_by_handlers: usize,
     /// A task sent its last answer to a queue.
     pub(crate) sent_answers: usize,
-    /// It sent an item that it had received.
+    /// It had received that answer from a queue.
     pub(crate) passed_on: usize,
     /// A handler sent its last answer.
     pub(crate) answers_sent_by_handlers: usize,
     /// A task was notified.
     pub(crate) notifies: usize,
-    /// One that waited for it was.
+    /// A task was notified that waited for it.
     pub(crate) notified_wakes: usize,
-    /// One that waited, and hadn't left the processor yet, was.
+    /// A task was notified that waited for it but hadn't left the processor yet.
     pub(crate) window_notifies: usize,
-    /// One that was suspended was.
+    /// A suspended task was notified.
     pub(crate) suspended_notifies: usize,
     /// A value was kept while a notification was pending.
     pub(crate) kept_values: usize,
-    /// One was overwritten.
+    /// A value was overwritten while a notification was pending.
     pub(crate) lost_values: usize,
     /// A count was added to another.
     pub(crate) added_counts: usize,
-    /// A take answered a count.
+    /// A take returned a count.
     pub(crate) taken_counts: usize,
-    /// It left some.
+    /// A take left part of a count.
     pub(crate) left_counts: usize,
     /// A wait for a notification ended at its deadline.
     pub(crate) notice_timeouts: usize,
-    /// One cleared bits at its start.
+    /// A `notify_wait` cleared bits at its start.
     pub(crate) entry_clears: usize,
-    /// One cleared some at its end.
+    /// A `notify_wait` cleared bits at its end.
     pub(crate) exit_clears: usize,
     /// A pending notification was cleared.
     pub(crate) cleared_notices: usize,
-    /// A handler was injected that couldn't come, since it was disarmed.
+    /// An injected handler couldn't come because it was disarmed.
     pub(crate) disarmed_injections: usize,
-    /// One was that had come too short a time before.
+    /// An injected handler couldn't come because it had come too recently.
     pub(crate) early_injections: usize,
-    /// One came that was disarmed since it was pending.
+    /// A pending handler came although it had been disarmed meanwhile.
     pub(crate) disarmed_pending: usize,
-    /// A base interrupt came whose handler was disarmed.
+    /// A base interrupt came although its handler was disarmed.
     pub(crate) disarmed_interrupts: usize,
-    /// A raised handler came that was disarmed.
+    /// A raised handler came although it was disarmed.
     pub(crate) disarmed_raised: usize,
-    /// A handler was raised again.
+    /// A handler was raised while it already was.
     pub(crate) raised_again: usize,
-    /// One was cancelled.
+    /// A raised handler was cancelled.
     pub(crate) cancelled: usize,
     /// A raised handler came.
     pub(crate) raised_comings: usize,
-    /// Two or more came at one tick.
+    /// Two or more raised handlers came at one tick.
     pub(crate) raised_together: usize,
-    /// One came behind a base interrupt of its tick.
+    /// A raised handler came after a base interrupt of its tick.
     pub(crate) raised_behind_others: usize,
-    /// One came while the scheduler was suspended.
+    /// A raised handler came while the scheduler was suspended.
     pub(crate) raised_in_holds: usize,
     /// A task armed, disarmed, raised or cancelled a handler in a critical section, or while the scheduler was suspended.
     pub(crate) controlled_in_holds: usize,
-    /// A handler did so.
+    /// A handler armed, disarmed, raised or cancelled a handler.
     pub(crate) controlled_by_handlers: usize,
-    /// Idle let several ticks pass in a step, up to a raised handler.
+    /// A jump ended at a raised handler.
     pub(crate) jumps_to_raised: usize,
     pub(crate) injections: Injections,
 }

@@ -1,4 +1,4 @@
-//! A campaign's tally, as it is seen while the rows are made.
+//! The tally of a campaign, read while the rows are made.
 ghost use Rattle.std.specs.Prelude.{◌≡◌};
 
 use crate::working::{divided, points_at};
@@ -32,13 +32,13 @@ impl Reader<'_> {
     }
 }
 
-/// The reader, which whoever comes to a block uses.
+/// The reader, which every worker uses when it enters a block.
 #[derive(Drop)]
 struct Shared<'a> {
     reader: Mutex<Reader<'a>>,
 }
 
-/// Looks at the tally before each block.
+/// Reads the tally before each block.
 #[derive(Drop)]
 struct Watching<'a, R> {
     rt: &'a R,

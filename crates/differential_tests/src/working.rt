@@ -1,4 +1,4 @@
-//! Campaigns that several workers make.
+//! Campaigns made by several workers.
 ghost use Rattle.std.specs.Prelude.{◌≡◌, ◌<◌, ◌≤◌, length, sum};
 ghost use Rattle.model.specs.Scripts.{most_points};
 
@@ -10,7 +10,7 @@ use std::process::Abort;
 use std::sync::Wait;
 use std::thread::Threads;
 
-/// How the rows of a campaign are made: by this many workers, from states of the base run that lie this many steps apart.
+/// How the rows of a campaign are made: by this many workers, from checkpoints of the base run that are this many steps apart.
 #[derive(Clone, Copy, Debug)]
 pub(crate) struct Manner {
     pub(crate) workers: usize,
@@ -50,7 +50,7 @@ pub(crate) fn divided(
     }
 }
 
-/// The campaign of an application over these points, which are divided so, with a tally of its own.
+/// The campaign of an application over these points, with this division and a tally of its own.
 pub(crate) fn campaign_in<R: Abort + Threads + Wait + Sync, G: Gate + Sync>(
     rt: &R,
     alloc: Global,
