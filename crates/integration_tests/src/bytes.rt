@@ -1,4 +1,4 @@
-//! Reading and writing: calls that succeed, and lines letter by letter.
+//! Reading and writing: calls that succeed, and lines byte by byte.
 
 use crate::sinks::{Breaking, Holder, check_text};
 use byte_io::{FromReader, Piece, ReadFault, ToWriter, put_all, read_all, write_line};

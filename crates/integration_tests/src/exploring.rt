@@ -17,7 +17,7 @@ task = [{ name = 'd', priority = 1, script = ['receive q 2', 'delay 1', 'receive
 interrupt = [{ tick = 1, handler = 'rx' }]
 ";
 
-// How many lists of at most so many steps there are, of two, in rising order.
+// The number of non-decreasing lists of at most this many steps, out of two steps.
 #[test]
 fn placements_in_a_run_of_two_steps(rt: HostRuntime) {
     let app = loaded(&rt, rt.alloc(), TWO_STEPS);
@@ -36,7 +36,7 @@ fn placements_in_a_run_of_two_steps(rt: HostRuntime) {
     }
 }
 
-// Of two interrupts one finds the queue full in 41 placements. The least of these is a single one before step 6.
+// With up to two interrupts, one finds the queue full in 41 placements. The least of these is a single interrupt before step 6.
 #[test]
 fn placements_of_an_interrupt_that_finds_a_full_queue(rt: HostRuntime) {
     let app = loaded(&rt, rt.alloc(), FULL_QUEUE);

@@ -7,8 +7,8 @@ use model::{App, BadPlan, Event, HandlerId, Injection, Meter, Plan, What};
 use std::alloc::{AllocError, Global};
 use std::process::Abort;
 
-// A caller that is woken unsuccessfully, a task of its priority that works, and one above them that waits at another
-// queue.
+// A caller that is woken unsuccessfully, a task of the same priority that works, and a task of higher priority that waits at
+// another queue.
 const THREE_INJECTIONS: &str = r"
 queue = [{ name = 'p', length = 1 }, { name = 'q', length = 1 }]
 handler = [
@@ -41,7 +41,7 @@ fn plan_of(
     Ok(Plan::new(plan).ok().expect(rt, "a plan"))
 }
 
-/// Each step after which another task runs, or idle, and its name.
+/// Each step after which another task or idle runs, and its name.
 fn switches(alloc: Global, app: &App, events: &[Event]) -> Result<String, AllocError> {
     let mut text = String::new(alloc);
     for event in events {
@@ -66,7 +66,7 @@ const SWITCHES: &str = "4 caller
 18 -
 ";
 
-// The caller's second hold follows no wait, so it gives way to its equal when the task above them runs, and comes last.
+// The caller's second hold follows no wait. So it yields to its equal when the task of higher priority runs, and comes last.
 #[test]
 fn a_call_that_waited_before_and_need_not_now_gives_way(rt: HostRuntime) -> Result<(), AllocError> {
     let alloc = rt.alloc();
@@ -88,7 +88,7 @@ const INJECTED: u32 = 3;
 
 const AT_THE_TICK: u32 = 4;
 
-/// A file whose first step is a tick, at which four handlers come; three others are there to be injected.
+/// A file whose first step is a tick, at which four handlers come. Three other handlers can be injected.
 fn marking_handlers(alloc: Global) -> Result<String, AllocError> {
     let mut text = String::new(alloc);
     for handler in 0..INJECTED + AT_THE_TICK {
@@ -137,7 +137,7 @@ fn a_step_of_112_marks(rt: HostRuntime) -> Result<(), AllocError> {
     Ok(())
 }
 
-/// Why the injections at these steps are no plan, if they are none.
+/// Why the injections at these steps are not a plan; `None` if they are one.
 fn refusal_of(rt: &impl Abort, alloc: Global, steps: &[u32]) -> Option<BadPlan> {
     let mut plan = Vec::new(alloc);
     for step in steps {
@@ -169,7 +169,7 @@ fn plans_that_are_refused(rt: HostRuntime) {
             Some(BadPlan::Crowded)
         )
     );
-    // Falling comes first.
+    // If both faults apply, `Falling` is returned.
     assert!(&rt;
         matches!(
             refusal_of(&rt, alloc, &[2, 2, 2, 2, 1]),

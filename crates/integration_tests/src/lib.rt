@@ -1,6 +1,6 @@
-//! Tests of several crates together, of what only a library shows: what files are loaded as, where each row begins, what is found
-//! among all placements, what words ask for, and streams that are narrow or fail. What the program writes is in files, which the
-//! program's tests compare. There is nothing here but tests.
+//! Tests of several crates together, for what only a library shows: how files are loaded, where each row begins, what is found
+//! among all placements, what words ask for, and streams that are narrow or fail. The program's own tests compare what the program
+//! writes with files. This crate contains only tests.
 #![tactic(auto)]
 
 #[cfg(test)]

@@ -1,4 +1,4 @@
-//! What a file is loaded as: its objects and groups with the ops on them, its daemon, its limits and its points.
+//! How a file is loaded: its objects and groups with the ops on them, its daemon, its limits and its points.
 
 use model::{
     Access, App, Command, Condition, GroupId, HandlerId, IsrOp, ObjectId, ObjectKind, Op, Point,
@@ -23,13 +23,13 @@ fn has_objects(rt: &impl Abort, app: &App, objects: &[ObjectKind]) {
     assert!(rt; app.objects() == objects);
 }
 
-/// Compares the ops of its first task.
+/// Compares the ops of the application's first task.
 pub(crate) fn has_ops(rt: &impl Abort, app: &App, ops: &[Op]) {
     let task = app.tasks().first().expect(rt, "a task");
     assert!(rt; task.ops() == ops);
 }
 
-/// Compares the ops of its first handler.
+/// Compares the ops of the application's first handler.
 pub(crate) fn has_isr_ops(rt: &impl Abort, app: &App, ops: &[IsrOp]) {
     let handler = app.handlers().first().expect(rt, "a handler");
     assert!(rt; handler.ops() == ops);
@@ -101,7 +101,7 @@ priority = 1
 script = ['take b 4294967294', 'give c', ' take  d  forever', 'lock m 0', 'unlock m', 'lock m forever']
 ";
 
-// Whatever their order in the file is, binary semaphores come before counting ones, and those before mutexes.
+// Binary semaphores come before counting ones, and those before mutexes, whatever their order in the file.
 #[test]
 fn semaphores_and_mutexes_and_the_ops_on_them_are_loaded(rt: HostRuntime) {
     let app = loaded(&rt, rt.alloc(), SEMAPHORES_AND_MUTEXES);
@@ -156,7 +156,7 @@ name = 'g'
 name = 'any'
 ";
 
-/// For which bits a task waits.
+/// The bits that a task waits for.
 fn bits(mask: u32, all: bool, clear: bool) -> Condition {
     Condition { mask, all, clear }
 }
@@ -195,7 +195,7 @@ fn groups_and_the_ops_on_them_and_those_that_suspend_are_loaded(rt: HostRuntime)
     has_isr_ops(&rt, &app, &isr_ops);
 }
 
-// Wherever it is in the file, the daemon comes after all tasks, and its queue after all objects.
+// The daemon comes after all tasks, and its queue after all objects, wherever it is in the file.
 const DAEMON: &str = "
 [daemon]
 name = 'timer_service'
@@ -317,7 +317,7 @@ fn an_application_without_groups(rt: HostRuntime) {
     assert!(rt; app.group_count() == 0);
 }
 
-// The first word of a point decides: a handler `all` is one like any other.
+// The first word of a point decides. A handler named `all` is like any other.
 const POINTS: &str = "
 [campaign]
 points = [

@@ -1,5 +1,5 @@
-//! What ops are loaded as: branches, loops and checks, ops on values, notifications, and ops on handlers. Those on objects and
-//! groups are in `loading`.
+//! How ops are loaded: branches, loops and checks, ops on values, notifications, and ops on handlers. Ops on objects and groups are
+//! in `loading`.
 
 use crate::loading::{has_isr_ops, has_ops, loaded};
 use model::{
@@ -98,7 +98,7 @@ fn handlers_that_look_and_tasks_that_measure_time_are_loaded(rt: HostRuntime) {
     has_ops(&rt, &app, &ops);
 }
 
-// A word of the grammar may be the name of a variable. `answer` is the last answer if a value is wanted, and otherwise the
+// A word of the grammar may be the name of a variable. `answer` is the last answer if a value is expected, and otherwise the
 // variable.
 const VARIABLES: &str = "
 [[queue]]
@@ -250,7 +250,7 @@ fn notifies_waits_for_notifications_and_clears_are_loaded(rt: HostRuntime) {
     has_isr_ops(&rt, &app, &isr_ops);
 }
 
-// A handler may name handlers after it, and itself. `tick` is the handler of that name here.
+// A handler may name handlers after it, and itself. Here `tick` is the handler of that name.
 const DEVICES: &str = "
 [[handler]]
 name = 'h'

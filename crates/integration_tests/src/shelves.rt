@@ -20,9 +20,9 @@ struct Cost {
     stride: u32,
     step: u32,
     is_reached: bool,
-    /// How many steps the row has.
+    /// The number of steps of the row.
     steps: u32,
-    /// How many of them are run.
+    /// The number of these steps that are run.
     run: u64,
 }
 
@@ -107,7 +107,7 @@ fn row_from(rt: &impl Abort, alloc: Global, app: &App, stride: u32, step: u32) -
     row_of(rt, alloc, app, stride, point)
 }
 
-/// The same of the first handler before both of these steps.
+/// The same for the first handler before both of these steps.
 fn row_of_two(rt: &impl Abort, alloc: Global, app: &App, stride: u32, steps: [u32; 2]) -> (Row, u64)
     requires some { 0 < stride }
     requires few { stride ≤ 65536 }
@@ -127,8 +127,8 @@ fn row_of_two(rt: &impl Abort, alloc: Global, app: &App, stride: u32, steps: [u3
     row_of(rt, alloc, app, stride, point)
 }
 
-/// How many events the base run had reported by the checkpoint before step 6, if the row of the first handler before this step
-/// reaches it.
+/// The number of events that the base run had reported by the checkpoint before step 6, if the row of the first handler before this
+/// step reaches it.
 fn known_at_six(rt: &impl Abort, alloc: Global, app: &App, step: u32) -> Option<usize>
     requires { step < 6 }
 {
@@ -175,8 +175,8 @@ fn a_row_is_the_same_from_each_stride(rt: HostRuntime) {
     }
 }
 
-// The second comes past the end of the base run, which has seven steps, and before the row's own. What a row costs goes by the
-// first.
+// The second injection comes past the end of the base run, which has seven steps, and before the end of the row. The cost of a row
+// depends on the first injection.
 #[test]
 fn a_row_of_two_injections(rt: HostRuntime) {
     let app = loaded(&rt, rt.alloc(), RECEIVE);
@@ -195,7 +195,7 @@ fn a_row_whose_first_injection_is_at_the_end_is_the_base_run(rt: HostRuntime) {
     assert!(rt; !row.reached && row.run.steps == 7 && run == 0);
 }
 
-// Before the task waits, nothing is left of what the handler does: it takes back what it has sent. Then it wakes the task.
+// Before the task waits, the handler has no lasting effect, since it takes back what it has sent. After that, it wakes the task.
 #[test]
 fn a_row_is_known_where_it_joins_the_base_run(rt: HostRuntime) {
     let app = loaded(&rt, rt.alloc(), RECEIVE);

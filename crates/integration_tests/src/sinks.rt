@@ -5,7 +5,7 @@ use byte_io::{Failed, Sink, Source};
 use std::alloc::Global;
 use std::process::Abort;
 
-/// Holds what it is given, at most this many bytes a call. Once there is no more room it fails, or takes no more.
+/// Holds what it is given, at most this many bytes per call. When it is full, it fails or takes no more.
 #[derive(Drop)]
 pub(crate) struct Holder {
     bytes: Vec<u8>,
@@ -16,7 +16,7 @@ pub(crate) struct Holder {
 }
 
 impl Holder {
-    /// A sink with this much room. Once that is used up a polite one takes nothing.
+    /// A sink with this much room. When it is full, a polite one takes nothing.
     pub(crate) fn new(alloc: Global, at_once: usize, room: usize, is_polite: bool) -> Self
         ensures { result.failed ≡ false }
     {
@@ -36,7 +36,7 @@ impl Holder {
         Holder::new(alloc, at_once, usize::MAX, true)
     }
 
-    /// What it holds.
+    /// The bytes that it holds.
     pub(crate) fn bytes(&self) -> &[u8] {
         self.bytes.as_slice()
     }
@@ -62,7 +62,7 @@ impl Sink for Holder {
     }
 }
 
-/// Gives the same bytes this many times, and then fails, as a folder that is read does at once.
+/// Returns the same bytes this many times, and then fails. A folder that is read fails like this at once.
 #[derive(Drop)]
 pub(crate) struct Breaking {
     text: &'static [u8],
@@ -101,7 +101,7 @@ impl Source for Breaking {
     }
 }
 
-/// Compares a text with the one that is wanted, and shows both if they differ.
+/// Compares a text with the expected one, and shows both if they differ.
 pub(crate) fn check_text(rt: &impl Abort, alloc: Global, name: &str, got: &[u8], wanted: &str) {
     if got != wanted.as_bytes() {
         let got = String::from_utf8_lossy(alloc, got).expect(rt, "memory");

@@ -10,7 +10,7 @@ use std::process::Abort;
 use std::sync::Wait;
 use std::thread::Threads;
 
-// A sound file, which ends in a comment so that it may be given again and again.
+// A valid file. It ends in a comment, so it may be given several times in a row.
 const ONE_MARK: &str = "task = [{ name = 'a', priority = 1, script = ['mark 5'] }] # ";
 
 const ONE_MARK_REPORT: &str = "base: pass in 1 steps, 0 ticks\n0 0 mark a 5\n0 0 run -\n";
@@ -57,7 +57,7 @@ row 1 at 1 h: check a 1 in 2 steps, 0 ticks
 total 2: pass 0, check 2, misuse 0, ticks 0, steps 0, stuck 0, not reached 0
 ";
 
-/// Does a job over sinks that take a byte a call, and compares its status, what it writes and what it reports.
+/// Runs a job over sinks that take one byte per call. Compares its status, what it writes and what it reports.
 fn check_byte_by_byte<R: Abort + Threads + Wait + Sync>(
     rt: &R,
     alloc: Global,
@@ -120,7 +120,7 @@ fn sinks_that_take_a_byte_a_call(rt: HostRuntime) {
     check_byte_by_byte(&rt, alloc, &job, TWO_ROWS, 2, ("", line));
 }
 
-/// Runs a sound file, over a writer that has room for this many bytes of its report. Returns what was written.
+/// Runs a valid file over a writer that has room for this many bytes of its report. Returns what was written.
 fn check_full_writer<R: Abort + Threads + Wait + Sync>(
     rt: &R,
     alloc: Global,

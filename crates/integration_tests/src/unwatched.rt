@@ -1,10 +1,10 @@
-//! Jobs whose progress nobody watches.
+//! Jobs whose progress is not watched.
 
 use campaign::Gate;
 use deal::Counts;
 use explorer::Watch;
 
-/// Learns nothing of a job.
+/// Ignores the progress of a job.
 #[derive(Clone, Copy)]
 pub(crate) struct Unwatched;
 
