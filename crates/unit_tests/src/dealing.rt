@@ -33,7 +33,7 @@ fn has_list(rt: &impl Abort, closed: &Closed, lane: usize, blocks: &[usize]) {
     }
 }
 
-// Compares of how many lanes there are lists, and which blocks are left.
+// Compares the number of lanes that have lists, and which blocks are left.
 fn has_rest(rt: &impl Abort, closed: &Closed, lanes: usize, rest: &[usize]) {
     assert!(rt; closed.lists.len() == lanes);
     assert!(rt; closed.rest.as_slice() == rest);

@@ -1,4 +1,4 @@
-//! Which lengths are a division.
+//! Which lengths form a division.
 use deal::{BadDivision, Division};
 use std::alloc::Global;
 use std::test::Fail;

@@ -1,6 +1,6 @@
-//! Tests of the parts of a kernel by themselves, of what only a library shows: lists, the clock, the scheduler, the objects, the
-//! event groups and the kernel's state; and divisions, lanes and seats, on one thread and on several. There is nothing here but
-//! tests.
+//! Tests of the parts of a kernel on their own, for what only a library shows: lists, the clock, the scheduler, the objects, the
+//! event groups and the kernel's state. They also cover divisions, lanes and seats, on one thread and on several. This crate
+//! contains only tests.
 #![tactic(auto)]
 
 #[cfg(test)]

@@ -65,12 +65,12 @@ fn lags(rt: &impl Abort, clock: &Clock, mark: Mark, expected: u64) {
     assert!(rt; clock.lag(mark) == expected, "{expected} ticks behind");
 }
 
-/// Compares how many ticks it is until the first sleeper wakes.
+/// Compares the number of ticks until the first sleeper wakes.
 fn has_nearest(rt: &impl Abort, clock: &Clock, expected: Option<u32>) {
     assert!(rt; clock.nearest() == expected, "{expected:?} is nearest");
 }
 
-/// Nobody wakes before the last of this many ticks.
+/// No task wakes before the last of this many ticks.
 fn reaches(rt: &impl Abort, clock: &Clock, ticks: u32)
     ensures { Each (λ e. clock.now.now + ticks ≤ e.1) clock.now.delayed_list }
 {

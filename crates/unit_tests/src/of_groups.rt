@@ -12,7 +12,7 @@ fn condition(mask: u32, all: bool, clear: bool) -> Condition {
     Condition { mask, all, clear }
 }
 
-/// Puts a task that waits at no group after the tasks that wait.
+/// Puts a task that waits at no group after the waiting tasks.
 fn wait(rt: &impl Abort, groups: &mut Groups, number: u8, condition: Condition)
     requires { number < 32 }
 {
@@ -21,7 +21,7 @@ fn wait(rt: &impl Abort, groups: &mut Groups, number: u8, condition: Condition)
     groups.place(task, GROUP, condition);
 }
 
-/// Sets bits, and compares the tasks that are met, by which bits, and which are left.
+/// Sets bits. Compares the tasks that are met, the bits that meet them, and the bits that are left.
 fn set(rt: &impl Abort, groups: &mut Groups, mask: u32, tasks: &[TaskId], by: u32, left: u32) {
     let mut met = Met::none();
     groups.set(GROUP, mask, &mut met);
@@ -36,7 +36,7 @@ fn has_bits(rt: &impl Abort, groups: &Groups, expected: u32) {
     assert!(rt; groups.bits(GROUP) == expected, "{expected} is set");
 }
 
-/// Compares whether a wait is met, and which bits are set before it is over and after.
+/// Compares whether a wait is met, and which bits are set before and after it ends.
 fn end_wait(
     rt: &impl Abort,
     groups: &mut Groups,

@@ -42,7 +42,8 @@ fn after(table: &Table<2, 8, 10>, node: Option<NodeId>) -> Option<NodeId> {
     }
 }
 
-/// Puts the first node last, and compares the nodes then. The call returns the one that is first then, if there are two.
+/// Moves the first node to the end, and compares the order of the nodes. The call returns the new first node, if there are at least
+/// two nodes.
 fn rotate(rt: &impl Abort, table: &mut Table<2, 8, 10>, expected: &[u16]) {
     let first = table.rotate(LIST);
     if expected.len() < 2 {

@@ -1,4 +1,4 @@
-//! Items that come and go, counts, holders, tasks that wait and are woken.
+//! Items that are added and removed, counts, holders, and tasks that wait and are woken.
 ghost use Rattle.objects.specs.Objects.{HasRoom};
 ghost use Rattle.std.specs.Prelude.{◌≡◌, ◌<◌};
 
@@ -37,10 +37,10 @@ fn some_objects() -> Objects
     ])
 }
 
-/// The last place for an object, which none of a file has.
+/// The last place for an object. No object of a file is there.
 const LAST: ObjectId = ObjectId { number: 32 };
 
-/// As many of the longest queues as there are places.
+/// As many queues of the greatest length as there are places.
 fn most_queues() -> Objects
     ensures { result.number ≡ 33 }
 {
@@ -78,7 +78,7 @@ fn lock(rt: &impl Abort, objects: &mut Objects) {
     objects.lock(QUEUE);
 }
 
-/// Unlocks, and compares which tasks are woken then.
+/// Unlocks, and compares which tasks are woken by that.
 fn unlock(rt: &impl Abort, objects: &mut Objects, to_receive: &[TaskId], to_send: &[TaskId]) {
     match objects.unlock() {
         None => panic!(rt; "locked"),
@@ -187,7 +187,7 @@ fn give(objects: &mut Objects, task: TaskId) -> Result<(), NotHolder> {
     objects.give_mutex(task, MUTEX)
 }
 
-/// Compares who holds the mutex, and how many mutexes the task 6 holds.
+/// Compares the holder of the mutex, and the number of mutexes that task 6 holds.
 fn has_holder(rt: &impl Abort, objects: &Objects, holder: Option<TaskId>, held: u8) {
     assert!(rt; objects.holder(MUTEX) == holder, "{holder:?} holds it");
     assert!(rt;
@@ -196,7 +196,7 @@ fn has_holder(rt: &impl Abort, objects: &Objects, holder: Option<TaskId>, held: 
     );
 }
 
-/// Makes a call that is possible, and returns 1. It is no `overwrite`.
+/// Makes a possible call, which returns 1. It isn't an `overwrite`.
 fn succeed(
     rt: &impl Abort,
     objects: &mut Objects,

@@ -1,9 +1,9 @@
-//! Tasks that take turns and give way.
+//! Tasks that take turns and yield.
 use model::TaskId;
 use sched::Sched;
 use std::process::Abort;
 
-/// What is done to the scheduler, with what it returns, and what is seen of it.
+/// What is done to the scheduler and what it returns, or what is seen of it.
 #[derive(Clone, Copy)]
 enum Move {
     Wake(TaskId),
@@ -13,10 +13,10 @@ enum Move {
     Resume(TaskId, bool),
     Priority(TaskId, u8),
     Hold,
-    /// How deep it is held then.
+    /// The depth of the hold after that.
     Unhold(u32),
     Choose(Option<TaskId>),
-    /// The task that runs then, if the switch is made.
+    /// The task that runs after that, if the switch is made.
     Preempt(Option<TaskId>),
     Slice(Option<TaskId>),
     Yield(TaskId),
@@ -69,7 +69,7 @@ fn switched(sched: &Sched, is_switch: bool) -> Option<TaskId> {
     if is_switch { sched.current() } else { None }
 }
 
-/// Whether a sight of the scheduler is as the move says.
+/// Whether the scheduler's state is as the move says.
 fn is_seen(sched: &Sched, sight: Move) -> bool {
     match sight {
         Runs(task) => sched.current() == task,
@@ -102,7 +102,7 @@ fn is_switched(sched: &mut Sched, switch: Move) -> bool {
     }
 }
 
-/// Makes a move, and returns whether the scheduler returns what the move says.
+/// Makes a move, and returns whether the scheduler's result is as the move says.
 fn is_answered(rt: &impl Abort, sched: &mut Sched, step: Move) -> bool {
     match step {
         Wake(task) => wake(rt, sched, task),
@@ -224,22 +224,22 @@ fn a_task_goes_behind_its_new_equals(rt: HostRuntime) {
         &[
             Wake(LOW),
             Wake(OTHER),
-            // Its own priority leaves it first among its equals.
+            // If it is given its own priority, it stays first among its equals.
             Priority(LOW, 1),
             Choose(Some(LOW)),
             Wake(HIGH),
-            // It inherits, and moves after the one that was there.
+            // It inherits, and moves after the task that was already there.
             Priority(LOW, 2),
             HasPriority(LOW, 2),
             HasBasePriority(LOW, 1),
             Choose(Some(HIGH)),
             Yield(LOW),
-            // Back at its base priority it is after the other.
+            // Back at its base priority, it is after the other.
             Priority(LOW, 1),
             Preempt(Some(HIGH)),
             Block(HIGH),
             Choose(Some(OTHER)),
-            // A task that isn't Ready has the priority once it is woken.
+            // A task that isn't Ready has the new priority once it is woken.
             Priority(HIGH, 0),
             IsReady(HIGH, false),
             Wake(HIGH),
@@ -268,7 +268,7 @@ fn a_suspended_task_is_ready_once_it_is_resumed(rt: HostRuntime) {
             IsSuspended(HIGH, false),
             Resume(HIGH, false),
             Choose(Some(HIGH)),
-            // While the scheduler is held, one that is pending is suspended, and one that is resumed is pending.
+            // While the scheduler is held, a pending task is suspended, and a resumed task is pending.
             Hold,
             Wake(OTHER),
             Suspend(OTHER),

@@ -10,7 +10,7 @@ use std::test::Fail;
 use std::thread;
 use std::thread::Threads;
 
-// Takes blocks until all are handed out.
+// Takes blocks until all have been handed out.
 fn run<R: Wait>(rt: &R, mut lane: Lane) -> Lane
     ensures { (result.game ≡ lane.game) × HasSeenAll result }
 {
@@ -24,7 +24,7 @@ fn run<R: Wait>(rt: &R, mut lane: Lane) -> Lane
     lane
 }
 
-// Each lane in a thread of its own, if one can be started.
+// Runs each lane in a thread of its own, if one can be started.
 fn run_all<R: Threads + Wait + Sync>(rt: &R, lanes: Vec<Lane>) -> Result<Vec<Lane>, AllocError>
     ensures { IfOk result (λ back. (g : Game) → AreLanesOf g lanes.items → AreLanesOf g back.items) }
 {
@@ -52,8 +52,7 @@ fn share<R: Threads + Wait + Sync>(
     Ok(deal.close(lanes))
 }
 
-// Whether each number below the length is in the lists, and nothing else is. No number is
-// marked twice.
+// Whether each number below the length is in the lists, and nothing else is. No number is marked twice.
 fn are_each_once(alloc: Global, closed: &Closed, blocks: usize) -> Result<bool, AllocError> {
     let mut marks = vec![in alloc; false; blocks]?;
     for list in &closed.lists {
