@@ -64,7 +64,7 @@ impl ReferenceKernel {
     }
 
     /// A task is notified: its value changes, and a notification is pending. If it waits for one, it becomes Ready. Returns 0 if
-    /// the value was to be kept, and 1 otherwise.
+    /// a pending value was kept instead, and 1 otherwise.
     pub(super) fn notify(
         &mut self,
         id: TaskId,

@@ -65,7 +65,7 @@ impl ReferenceKernel {
         }
     }
 
-    /// The interrupt comes at this tick. It can't be injected again for some ticks.
+    /// The interrupt comes at this tick. It can't be injected again until `apart` ticks have passed.
     pub(super) fn note_coming(&mut self, app: &App, source: HandlerId) {
         let apart = match app.handlers().get(source.number as usize) {
             None => 0,

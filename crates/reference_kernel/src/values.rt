@@ -238,7 +238,7 @@ impl ReferenceKernel {
 
     // ---- values that are passed on
 
-    /// Counts a call of a task that now sends a value to a queue that the task has received or calculated.
+    /// Counts a call of a task that now sends its last answer to a queue, and whether the task received that answer from a queue.
     pub(super) fn count_passed_on(&mut self, id: TaskId, object: u8, access: Access<Value>) {
         let task = self.task(id);
         let is_sent = sends_answer(access)
@@ -248,7 +248,7 @@ impl ReferenceKernel {
         count_if(&mut self.tally.passed_on, is_sent && task.has_received);
     }
 
-    /// Counts such a call of a handler.
+    /// Counts a call of a handler that now sends its last answer to a queue.
     pub(super) fn count_isr_sent(&mut self, object: u8, access: Access<Value>, last: Option<u32>) {
         let is_sent = sends_answer(access) && self.is_possible(object, self.asked(access, last));
         count_if(&mut self.tally.answers_sent_by_handlers, is_sent);
