@@ -1,9 +1,6 @@
 -- Points cut into even blocks, and the seats of a new tally.
-use Rattle.std.proofs.Common.{◌≡◌, ◌≤◌, ◌/◌, ◌%◌, ◌^◌, ℕ, zero, suc, List, sum, replicate, slice_index, refl, arith}
-use Rattle.std.proofs.lemmas.List.Folds.{sum_by-replicate}
-use Rattle.std.proofs.lemmas.List.Sums.{sum_by-append}
-use Rattle.std.proofs.lemmas.Nat.{div-add-mod'}
-use Rattle.deal.specs.Divisions.{even_lengths, rest_block}
+use Rattle.std.proofs.Common.{◌≡◌, ◌≤◌, ◌^◌, ℕ, zero, suc, List, sum, replicate, slice_index, refl, arith}
+use Rattle.deal.specs.Divisions.{rest_block}
 use Rattle.deal.specs.Parts.{zeros}
 use Rattle.deal.specs.Tallies.{Sheet, Tallied, fresh_seat}
 use Rattle.campaign.specs.Working.{AreReady}
@@ -11,14 +8,6 @@ use Rattle.campaign.specs.Working.{AreReady}
 sum_rest : (n : ℕ) → sum (rest_block n) ≡ n
 sum_rest zero = refl
 sum_rest (suc n) = omega arith
-
-pub sum_even : (total block : ℕ) → sum (even_lengths total block) ≡ total
-sum_even total block =
-    let both = sum_by-append (λ (x : ℕ). x) (replicate (total / block) block) (rest_block (total % block)) in
-    let first = sum_by-replicate (λ (x : ℕ). x) (total / block) block in
-    let rest = sum_rest (total % block) in
-    let all = div-add-mod' total block in
-    omega arith
 
 -- a seat that has added nothing has added nothing of a kind
 pub none_added : (kind : ℕ) → slice_index zeros kind ≡ 0

@@ -1,6 +1,5 @@
 -- Rows as far as a view shows them are written and counted as the rows are.
 use Rattle.std.specs.List.{AllByRecursion}
-use Rattle.std.specs.Prelude.{Result, Ok, Err, IfOk}
 use Rattle.std.proofs.Common.{◌≡◌, ◌+◌, ◌&&◌, ℕ, Bool, true, false, cond, not, List, [], ◌∷◌, ◌++◌, filter, length, map, refl, sym}
 use Rattle.std.proofs.Common.{subst, ap, ap₂, ◌∙◌, arith}
 use Rattle.std.proofs.lemmas.List.{length-map}
@@ -142,12 +141,3 @@ pub plain_are_rows : (app : Application) (limits : Limits) (points : List (List 
 plain_are_rows app limits points rows are =
     let of = rows_of_seen app limits plain points rows are in
     subst (λ (rs : List Row). AreRows app limits points rs) (sym (of.as_seen ∙ plain_seen of.whole)) of.are_rows
-
--- the same of what an answer has
-pub plain_if_ok : {T E : Type 0} (r : Result T E) (app : Application) (limits : Limits)
-    (view : View) (points : List (List Injection)) (rows : T → List Row)
-    → view ≡ plain
-    → IfOk r (λ x. AreSeen app limits view points (rows x)) → IfOk r (λ x. AreRows app limits points (rows x))
-plain_if_ok (Ok x) app limits view points rows e are =
-    plain_are_rows app limits points (rows x) (subst (λ (v : View). AreSeen app limits v points (rows x)) e are)
-plain_if_ok (Err x) app limits view points rows e are = tt

@@ -5,7 +5,7 @@ use Rattle.std.specs.Option.{IfSome}
 use Rattle.model.specs.State.{State, Task, for_each}
 use Rattle.model.specs.Order.{Key, Entry, list_by, first, task_of, tasks_of}
 use Rattle.model.specs.Switching.{ready_list, ready_key, choice, is_same}
-use Rattle.model.specs.Time.{delayed_list, delayed_key, due, is_due}
+use Rattle.model.specs.Time.{due}
 use Rattle.model.proofs.Sorting.{by_test}
 use Rattle.model.proofs.Lists.{HasKey, list_has, eqb-same}
 
@@ -30,9 +30,6 @@ due_within_list : (n : ℕ) (q : Entry → Bool) (es : List Entry)
 due_within_list n q [] h = tt
 due_within_list n q (e ∷ es) h =
     by_test (q e) (λ t. rw t (h.0, due_within_list n q es h.1)) (λ t. rw t (due_within_list n q es h.1))
-
-pub due_within : (s : State) → AllByRecursion (λ i. i < length s.tasks) (tasks_of (due s))
-due_within s = due_within_list (length s.tasks) (is_due s) (delayed_list s) (list_within delayed_key s.tasks)
 
 -- one more
 pub each-end : {A : Type 0} (deed : A → State → State) (s : State) (xs : List A) (x : A)

@@ -1,6 +1,6 @@
 -- How a point lies in memory.
 use Rattle.std.proofs.Common.{◌≡◌, ◌≤◌, ◌<◌, ◌-◌, ℕ, zero, suc, List, [], ◌∷◌, length, take, slice_index, slice_index_or, refl, sym}
-use Rattle.std.proofs.Common.{ap, ap₂, arith}
+use Rattle.std.proofs.Common.{ap, arith}
 use Rattle.model.specs.declared.plan.Injection.{Injection}
 use Rattle.model.specs.Points.{last_step}
 use Rattle.model.specs.Packing.{handlers_of, paired, steps_of}
@@ -24,17 +24,6 @@ at_place (a ∷ b ∷ c ∷ d ∷ is) few place l other = absurd (omega arith)
 -- it is in the place of this number, if there is one
 abbrev pub IsAt : List Injection → ℕ → Injection → Type 0
 IsAt is place i = place < length is → i ≡ slice_index_or is place i
-
-pub all_places : (is : List Injection) → length is ≤ 3 → (x y z : Injection) → IsAt is 0 x → IsAt is 1 y → IsAt is 2 z
-    → take (length is) (x ∷ y ∷ z ∷ []) ≡ is
-all_places [] few x y z first second third = refl
-all_places (a ∷ []) few x y z first second third = ap (λ (i : Injection). i ∷ []) (first (omega arith))
-all_places (a ∷ b ∷ []) few x y z first second third =
-    ap₂ (λ (i j : Injection). i ∷ j ∷ []) (first (omega arith)) (second (omega arith))
-all_places (a ∷ b ∷ c ∷ []) few x y z first second third =
-    ap₂ (λ (i : Injection) (is : List Injection). i ∷ is) (first (omega arith))
-    (ap₂ (λ (i j : Injection). i ∷ j ∷ []) (second (omega arith)) (third (omega arith)))
-all_places (a ∷ b ∷ c ∷ d ∷ is) few x y z first second third = absurd (omega arith)
 
 pub first_of : (is : List Injection) → 1 ≤ length is → (x : Injection) → IsAt is 0 x → (others : List Injection) × (is ≡ x ∷ others)
 first_of [] some x at = absurd (omega arith)

@@ -1,13 +1,11 @@
 -- A handler that is built op by op nests as a whole.
-use Rattle.std.proofs.Common.{◌≡◌, ◌≤◌, ◌⊎◌, inl, inr, true, List, [], ◌∷◌, ◌++◌, ◌+◌, length, refl, ap, sym, subst, ◌∙◌, arith}
-use Rattle.std.proofs.Common.{length-append}
+use Rattle.std.proofs.Common.{◌≡◌, true, List, [], ◌∷◌, ◌++◌, ◌+◌, length, refl, ap, sym, subst, ◌∙◌}
 use Rattle.std.specs.Prelude.{nat_lt, not}
-use Rattle.std.specs.List.{AllByRecursion}
 use Rattle.model.specs.declared.op.IsrOp.{IsrOp}
 use Rattle.model.specs.declared.block.Block.{Block}
 use Rattle.model.specs.declared.block.Edge.{Edge}
 use Rattle.model.specs.Blocks.{edge_of_isr, isr_edges_of, blocks_past, may_stand, Nests, NestsSoFar, blocks_after}
-use Rattle.model.proofs.Nesting.{all-append, nothing_open}
+use Rattle.model.proofs.Nesting.{nothing_open}
 
 isr_edges-append : (ops : List IsrOp) (op : IsrOp) → isr_edges_of (ops ++ op ∷ []) ≡ isr_edges_of ops ++ edge_of_isr op ∷ []
 isr_edges-append [] op = refl
@@ -48,14 +46,3 @@ pub nest_whole : (bs : List Block) (ops : List IsrOp) → NestWith bs ops
 nest_whole bs ops h none = nests_whole [] (isr_edges_of ops) h.1 (sym h.0 ∙ nothing_open bs none)
 
 -- ---- ops that share a property, and how many there are
-
--- an op was appended, or left out
-pub all_pushed : (P : IsrOp → Type 0) (old new : List IsrOp) (op : IsrOp)
-    → (new ≡ old ++ op ∷ []) ⊎ (new ≡ old) → AllByRecursion P old → P op
-    → AllByRecursion P new
-all_pushed P old new op (inl more) all one = subst (AllByRecursion P) (sym more) (all-append P old op all one)
-all_pushed P old new op (inr same) all one = subst (AllByRecursion P) (sym same) all
-
-pub few_pushed : (old new : List IsrOp) (op : IsrOp) → (new ≡ old ++ op ∷ []) ⊎ (new ≡ old) → length new ≤ length old + 1
-few_pushed old new op (inl more) = let n = ap length more in omega (arith, n, length-append old (op ∷ []))
-few_pushed old new op (inr same) = let n = ap length same in omega (arith, n)

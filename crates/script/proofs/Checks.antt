@@ -1,7 +1,7 @@
 -- Where no check finds a fault.
 use Rattle.std.proofs.Common.{◌≡◌, Bool, true, false, List, ◌∷◌, Option, Some, None, refl}
 use Rattle.script.specs.declared.fault.Fault.{Fault}
-use Rattle.script.specs.Faults.{first_fault, fails_if, need}
+use Rattle.script.specs.Faults.{first_fault, fails_if}
 
 -- Where none of some checks finds a fault, the first doesn't, and none of the others.
 pub none_fails : (check : Option Fault) (checks : List (Option Fault))
@@ -13,9 +13,3 @@ none_fails (Some fault) checks none = cc
 pub passes : (b : Bool) (fault : Fault) → fails_if b fault ≡ None → b ≡ false
 passes true fault none = cc
 passes false fault none = refl
-
--- What is needed is there.
-pub needed : {X : Type 0} (fault : Fault) (o : Option X) (check : X → Option Fault) → need fault o check ≡ None
-    → (x : X) × (o ≡ Some x) × (check x ≡ None)
-needed fault None check none = cc
-needed fault (Some x) check none = (x, refl, none)

@@ -42,10 +42,6 @@ few_either_way : (t : Bool) (a b n : ℕ) → b ≤ n → (if t then min a b els
 few_either_way true a b n l = omega (arith, min-le_right a b, l)
 few_either_way false a b n l = l
 
--- It is no longer than from reset.
-pub short_way : (stride walked step : ℕ) → way_to stride walked step ≤ step
-short_way stride walked step = few_either_way (nat_le walked step) (step - walked) (step % stride) step (mod-le step stride)
-
 -- From reset it begins at the checkpoint before.
 pub way_from_reset : (stride step : ℕ) → way_to stride 0 step ≡ step % stride
 way_from_reset stride step = either_way (nat_le 0 step) (step - 0) (step % stride) (omega (arith, mod-le step stride))

@@ -133,10 +133,6 @@ elapsed-nobody : (app : Application) → (nobody_ready app).elapsed ≡ 0
 unfolding nobody_ready
 elapsed-nobody app = refl
 
-pub elapsed-reset : (app : Application) → (reset app).elapsed ≡ 0
-unfolding reset ready_at_reset
-elapsed-reset app = (keeps-all_ready (with_ops 0 app.tasks) (nobody_ready app)).elapsed ∙ elapsed-nobody app
-
 suspension-nobody : (app : Application) → suspension_of (nobody_ready app) ≡ record
     { suspensions = 0; held_ticks = 0; sections = 0 }
 unfolding nobody_ready
