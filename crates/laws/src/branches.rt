@@ -1,4 +1,4 @@
-//! What is true of branches and loops.
+//! Laws of branches and loops.
 ghost use Rattle.std.specs.Prelude.{◌≡◌, ◌<◌, ◌+◌, ℕ, true, false, List, [], ◌∷◌, length, Some, None};
 ghost use Rattle.model.specs.declared.answer.AnswerCondition.{AnswerCondition};
 ghost use Rattle.model.specs.declared.block.Block.{Block};
@@ -12,9 +12,9 @@ ghost use Rattle.model.specs.State.{State, progress_at};
 ghost use Rattle.model.specs.Step.{act, misuse};
 ghost use Rattle.laws.specs.Branches.{AllStay, Encloses, IsQuiet, ends_branch, is_of_blocks};
 
-/// Of the two branches of an `if` one is done. Where its condition holds, the first branch is next. Where it doesn't hold, what is
-/// behind that branch and its `else` is next, or behind its `end` if there is no `else`. An `else`, to which the first branch comes
-/// at its end, goes on behind the `end` of the other.
+/// Only one of the two branches of an `if` is executed. If its condition holds, the task continues with the first branch.
+/// Otherwise it continues after the `else`, or after the `end` if there is no `else`. An `else`, which the first branch reaches
+/// at its end, continues after the `end` of the second branch.
 pub fn one_branch_is_done()
     ensures taken { (app : Application) (task : ℕ) (condition : AnswerCondition) (s : State) → task < length s.tasks
         → holds s.variables condition (progress_at s task).answer ≡ true
@@ -30,16 +30,16 @@ pub fn one_branch_is_done()
         → (progress_at (act app task Else s) task).op_index ≡ (progress_at s task).op_index + 1 + (length second + 1) }
 {}
 
-/// An op that opens a branch or a loop, or ends or leaves one, lets no tick pass, switches to no other task, writes no line and
-/// leaves the last answer. It may be done while the scheduler is suspended.
+/// An op that opens, ends or leaves a branch or a loop takes no tick, switches to no other task, writes no line and leaves the
+/// last answer unchanged. It is allowed while the scheduler is suspended.
 pub fn branches_are_quiet()
     ensures quiet { (app : Application) (task : ℕ) (op : Op) (s : State) → is_of_blocks (edge_of op) ≡ true → task < length s.tasks
         → IsQuiet task s (act app task op s) }
     ensures allowed { (s : State) (task : ℕ) (op : Op) → is_of_blocks (edge_of op) ≡ true → misuse s task op ≡ None }
 {}
 
-/// The `end` of a loop for ever goes back to its first op, and the loop goes on, whatever was answered. Of the ops that open branches
-/// and loops, and end or leave them, only a `break` ends such a loop.
+/// The `end` of an endless loop returns to its first op, and the loop continues, whatever the last answer is. Of the ops that
+/// open, end or leave branches and loops, only a `break` ends such a loop.
 pub fn loops_for_ever_go_on()
     ensures back { (app : Application) (task : ℕ) (s : State) (innermost : Loop) (outer : List Loop) → task < length s.tasks
         → (progress_at s task).loops ≡ innermost ∷ outer → innermost.left ≡ None
@@ -49,7 +49,8 @@ pub fn loops_for_ever_go_on()
         → task < length s.tasks → AllStay (progress_at s task).loops (progress_at (act app task op s) task).loops }
 {}
 
-/// A `break` ends the innermost loop, even one for ever, in whatever branches of it the task is: what is behind its `end` is next.
+/// A `break` ends the innermost loop, even an endless one, and from inside any of its branches: the task continues after the
+/// loop's `end`.
 pub fn breaks_end_the_innermost_loop()
     ensures next { (app : Application) (task : ℕ) (s : State) (branches : List Block) (rest : List Op) → task < length s.tasks
         → op_at app task (progress_at s task).op_index ≡ Some Break

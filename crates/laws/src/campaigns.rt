@@ -1,4 +1,4 @@
-//! What is true of the rows of a campaign, and of their totals.
+//! Laws of the rows of a campaign, and of their totals.
 ghost use Rattle.std.specs.Prelude.{◌≡◌, ◌≤◌, ◌+◌, [], false, List};
 ghost use Rattle.model.specs.declared.plan.Injection.{Injection};
 ghost use Rattle.model.specs.declared.totals.Totals.{Totals};
@@ -6,8 +6,8 @@ ghost use Rattle.model.specs.Application.{Application, Limits};
 ghost use Rattle.model.specs.Campaign.{Row, totals_of};
 ghost use Rattle.model.specs.Run.{Run, IsRun, IsRow};
 
-/// Each row of a campaign ends in one way: the ends of its totals add up to its rows. No more points are not reached than
-/// there are rows.
+/// Each row of a campaign ends in one way, so the ends in its totals add up to the number of rows. The number of points that are
+/// not reached is at most the number of rows.
 pub fn ends_add_up()
     ensures ends { (rows : List Row) (t : Totals) → t ≡ totals_of rows
         → t.pass + t.check + t.misuse + t.ticks + t.steps + t.stuck ≡ t.rows }

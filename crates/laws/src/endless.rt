@@ -1,4 +1,4 @@
-//! What is true of endless tasks.
+//! Laws of endless tasks.
 ghost use Rattle.std.specs.Prelude.{◌≡◌, ℕ, true, false, List, length, Some, None, IfSome};
 ghost use Rattle.std.specs.List.{AllByRecursion};
 ghost use Rattle.model.specs.declared.event.End.TheVariants.{Pass};
@@ -8,21 +8,21 @@ ghost use Rattle.model.specs.State.{State, Task, status_at, with_task};
 ghost use Rattle.model.specs.Step.{is_ended};
 ghost use Rattle.model.specs.Run.{IsRun, Run, are_all_ended, end_of, state_after};
 
-/// A run that passes has come to the end of each task that isn't endless.
+/// In a run that passes, each task that isn't endless has ended.
 pub fn passing_runs_end_what_is_awaited()
     ensures { (app : Application) (plan : List Injection) (limits : Limits) (run : Run) → IsRun app plan limits run → run.end ≡ Pass
         → (task : ℕ) → IfSome (definition_of app task)
         (λ d. d.endless ≡ false → is_ended (status_at (state_after app limits plan run.steps) task) ≡ true) }
 {}
 
-/// No run of an application with endless tasks alone passes.
+/// If all tasks of an application are endless, none of its runs passes.
 pub fn endless_tasks_alone_never_pass()
     ensures { (app : Application) (plan : List Injection) (limits : Limits) (run : Run) → IsRun app plan limits run
         → AllByRecursion (λ (d : Definition). d.endless ≡ true) app.tasks → run.end ≡ Pass → ⊥ }
 {}
 
-/// No run waits for an endless task: whatever becomes of it, the run passes or goes on. Where all the others are Ended, and there is
-/// one, the run passes.
+/// No run waits for an endless task: its status doesn't affect whether the run passes or continues. If all other tasks are Ended,
+/// and there is at least one, the run passes.
 pub fn endless_tasks_are_not_awaited()
     ensures spared { (app : Application) (s : State) (task : ℕ) (now : Task) → is_endless app task ≡ true
         → are_all_ended app (with_task task now s) ≡ are_all_ended app s }

@@ -1,5 +1,5 @@
-//! Laws of the kernel's definitions: what follows from them, in the subject's words. Each is the contract of a function
-//! that does nothing, so that it is proved.
+//! Laws of the kernel: what follows from its definitions, in plain terms. Each law is the contract of a function that does
+//! nothing, so it is proved.
 #![tactic(auto)]
 
 mod arming;

@@ -1,4 +1,4 @@
-//! What is true of handlers that look at what was answered.
+//! Laws of handlers that check their last answer.
 ghost use Rattle.std.specs.Prelude.{◌≡◌, ◌+◌, ◌⊎◌, ◌++◌, ℕ, true, false, List, [], ◌∷◌, length, Option, Some, None};
 ghost use Rattle.model.specs.declared.answer.AnswerCondition.{AnswerCondition};
 ghost use Rattle.model.specs.declared.event.End.{End};
@@ -16,15 +16,15 @@ ghost use Rattle.model.specs.Step.{act_current, before_step};
 ghost use Rattle.laws.specs.Branches.{AreWhole, ends_branch};
 ghost use Rattle.laws.specs.Looking.{is_misused};
 
-/// A check of a handler that holds changes nothing: the ops behind it are done as if it weren't there.
+/// A handler's check that holds changes nothing: the ops after it are executed as if it weren't there.
 pub fn passed_checks_change_nothing()
     ensures { (app : Application) (handler op_index : ℕ) (condition : AnswerCondition) (answer : Option ℕ) (ops : List IsrOp) (s : State)
         → holds s.variables condition answer ≡ true
         → isr_each app handler op_index 0 answer (Expect condition ∷ ops) s ≡ isr_each app handler (op_index + 1) 0 answer ops s }
 {}
 
-/// Behind a check of a handler that fails no op of the handler is done, whichever there are. All that comes of it is that the run ends
-/// with this check, if it doesn't end already.
+/// After a handler's check fails, none of the handler's later ops is executed. The only effect of the failed check is that the
+/// run ends with it, unless the run is already ending.
 pub fn failed_checks_end_the_handler()
     ensures nothing { (app : Application) (handler op_index : ℕ) (condition : AnswerCondition) (answer : Option ℕ) (ops : List IsrOp)
         (s : State)
@@ -34,8 +34,8 @@ pub fn failed_checks_end_the_handler()
         → end_of app limits (fail check s) ≡ Some check }
 {}
 
-/// The first check that fails in a step is the run's. No handler that comes after it changes what the run is stopped by. What the
-/// running task or idle does in the step changes it only by a misuse.
+/// The first check that fails in a step decides how the run ends. Handlers that come after it don't change this. The step of the
+/// running task or of idle changes it only by a misuse.
 pub fn first_failed_check_counts()
     ensures handlers { (app : Application) (handlers : List ℕ) (end : End) (s : State) → s.stopped ≡ Some end
         → (before_step app handlers s).stopped ≡ Some end }
@@ -43,9 +43,9 @@ pub fn first_failed_check_counts()
         → ((act_current app limits running s).stopped ≡ Some end) ⊎ (is_misused (act_current app limits running s) ≡ true) }
 {}
 
-/// Of the two branches of a handler's `if` one is done. Where its condition holds, the first branch is next. Where it doesn't hold, what
-/// is behind that branch and its `else` is next, or behind its `end` if there is no `else`. An `else`, to which the first branch comes
-/// at its end, goes on behind the `end` of the other. What is passed is not done.
+/// Only one of the two branches of a handler's `if` is executed. If its condition holds, the handler continues with the first
+/// branch. Otherwise it continues after the `else`, or after the `end` if there is no `else`. An `else`, which the first branch
+/// reaches at its end, continues after the `end` of the second branch. Ops that are skipped have no effect.
 pub fn handlers_do_one_branch()
     ensures taken { (app : Application) (handler op_index : ℕ) (condition : AnswerCondition) (answer : Option ℕ) (ops : List IsrOp)
         (s : State)

@@ -1,4 +1,4 @@
-//! What is true of notifications.
+//! Laws of notifications.
 ghost use Rattle.std.specs.Prelude.{◌≡◌, ◌<◌, ◌≤◌, ◌+◌, ℕ, Bool, true, false, List, length, Option, Some, if◌then◌else◌};
 ghost use Rattle.model.specs.declared.notification.NotifyAction.{NotifyAction};
 ghost use Rattle.model.specs.declared.notification.NotifyAction.TheVariants.{Increment, Overwrite, Keep};
@@ -16,8 +16,8 @@ ghost use Rattle.model.specs.Step.{act, before_step, notify_by_number, step};
 ghost use Rattle.model.specs.Switching.{is_ready};
 ghost use Rattle.laws.specs.Notifications.{TakesNone};
 
-/// A notify is not lost, a handler's or a task's, whatever the task that it notifies is doing: that task's notification is what the notify
-/// makes of it, so one is pending. If the task waits for one, it is Ready.
+/// A notify by a handler or a task is never lost, whatever the notified task is doing. Its action is applied to the task's
+/// notification, which is then pending. If the task is waiting for a notification, it becomes Ready.
 pub fn notifies_are_not_lost()
     ensures handler { (app : Application) (handler op_index task : ℕ) (action : NotifyAction Value) (answer : Option ℕ) (s : State)
         → notification_at (isr app handler op_index (isr_op.Notify task action) answer s) task
@@ -32,8 +32,9 @@ pub fn notifies_are_not_lost()
         → waits_for_notification (status_at s other) ≡ true → is_ready (act app task (op.Notify other action) s) other ≡ true }
 {}
 
-/// A notification that is pending stays so until an op of its own task takes it: a clear, or the phase in which its wait is over. So it is
-/// pending after any number of steps of a run in which none does, whatever is injected: also from the start of a wait to its end.
+/// A pending notification stays pending until an op of its own task takes it: a clear, or the phase that ends its wait. So it is
+/// still pending after any number of steps of a run in which no op takes it, whatever is injected. This includes the steps from
+/// the start of a wait to its end.
 pub fn pending_notifications_stay()
     ensures step { (app : Application) (limits : Limits) (handlers : List ℕ) (task : ℕ) (s : State)
         → TakesNone app task (before_step app handlers s) → (notification_at s task).pending ≡ true
@@ -44,7 +45,8 @@ pub fn pending_notifications_stay()
         → (notification_at (state_after app limits plan (first + n)) task).pending ≡ true }
 {}
 
-/// Two increments before a take are one wake and the count 2: the second wakes nobody. The take answers 2 then, and leaves 1 or 0.
+/// Two increments before a take cause one wake and the count 2: the second wakes no task. The take then returns 2, and leaves 1
+/// or 0.
 pub fn increments_add_up()
     ensures wake { (task : ℕ) (first second : NotifyAction ℕ) (s : State)
         → (notify task second (notify task first s)).tasks ≡ (notify task first s).tasks }
@@ -57,8 +59,8 @@ pub fn increments_add_up()
         ≡ (if clears then 0 else 1) }
 {}
 
-/// Of two values that come before the first is read, `overwrite` loses the first and `keep` the second. A `keep` right after another
-/// notify changes nothing of the notification, and answers 0.
+/// If two values arrive before the first is read, `overwrite` loses the first and `keep` the second. A `keep` right after another
+/// notify leaves the notification unchanged and returns 0.
 pub fn one_of_two_values_is_lost()
     ensures overwrite { (task first second : ℕ) (s : State)
         → notification_at (notify task (Overwrite second) (notify task (Overwrite first) s)) task
@@ -71,8 +73,8 @@ pub fn one_of_two_values_is_lost()
         → notify_answer (Keep value) (notification_at (notify task action s) task) ≡ Some 0 }
 {}
 
-/// A notify wakes no task that doesn't wait for it, and puts none behind its equals: it changes nothing of any other task, and of its own
-/// only if that waits for a notification. So a Suspended task stays Suspended.
+/// A notify wakes no task that isn't waiting for it, and doesn't move a task after others of its priority. It changes no other
+/// task, and the notified task itself only if that is waiting for a notification. So a Suspended task stays Suspended.
 pub fn notifies_wake_no_one_else()
     ensures others { (task other : ℕ) (action : NotifyAction ℕ) (s : State) → (other ≡ task → ⊥)
         → (task_at (notify task action s) other ≡ task_at s other)

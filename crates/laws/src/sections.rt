@@ -1,4 +1,4 @@
-//! What is true of critical sections, and of the interrupts that are pending meanwhile.
+//! Laws of critical sections, and of interrupts that are pending during them.
 ghost use Rattle.std.specs.Prelude.{◌≡◌, ◌<◌, ℕ, suc, false, true, List, [], ◌∷◌, length};
 ghost use Rattle.std.specs.List.{AllByRecursion};
 ghost use Rattle.model.specs.declared.event.Event.{Event};
@@ -11,8 +11,9 @@ ghost use Rattle.model.specs.Step.{step};
 ghost use Rattle.model.specs.Invariant.{IsNonePending, IsState};
 ghost use Rattle.laws.specs.Sections.{alone, are_critical, is_of_handler, made_pending};
 
-/// A handler that is injected while a critical section is open changes nothing of the run as long as one is open, but that it is
-/// pending, and has come: the same steps are done, and the same events are reported. If it can't come, it isn't even pending.
+/// A handler that is injected while a critical section is open only becomes pending, and counts as having come. Nothing else of
+/// the run changes while a section is open: the same steps are done, and the same events are reported. If the handler can't come,
+/// it doesn't even become pending.
 pub fn pending_handlers_change_nothing()
     ensures can { (app : Application) → IsWellFormed app → (limits : Limits) (handler steps : ℕ) (s : State) → IsState app s
         → are_critical app limits (suc steps) s ≡ true → can_come s handler ≡ true
@@ -22,15 +23,16 @@ pub fn pending_handlers_change_nothing()
         → alone app limits steps (step app limits (handler ∷ []) s) ≡ alone app limits (suc steps) s }
 {}
 
-/// It comes before the first step before which none is open, and the run goes on from there as if it had been injected at that step.
+/// It comes before the first step at which no section is open. From there the run continues as if the handler had been injected
+/// at that step.
 pub fn pending_handlers_come_at_the_exit()
     ensures { (app : Application) (limits : Limits) (handler : ℕ) (s : State) → handler < length s.sources
         → IsNonePending s → is_critical s ≡ false
         → step app limits [] (pend app handler s) ≡ step app limits (handler ∷ []) s }
 {}
 
-/// So a handler that is injected inside a section, before which nothing is pending, comes before the first step after it, and nothing
-/// else of the run differs from the one in which it is injected there, if it can come there as it can here.
+/// So if a handler is injected inside a section and nothing was pending before, it comes before the first step after the section.
+/// The rest of the run is the same as if it had been injected there. This assumes that it can come at both steps or at neither.
 pub fn injections_in_a_section_wait()
     ensures { (app : Application) → IsWellFormed app → (limits : Limits) (handler steps : ℕ) (s : State) → IsState app s
         → IsNonePending s → handler < length s.sources → are_critical app limits (suc steps) s ≡ true
@@ -40,12 +42,12 @@ pub fn injections_in_a_section_wait()
         ≡ step app limits (handler ∷ []) (alone app limits (suc steps) s) }
 {}
 
-/// A handler that is pending already stays so, once.
+/// If a handler is already pending, injecting it again changes nothing: it comes only once.
 pub fn pending_handlers_come_once()
     ensures { (app : Application) (handler : ℕ) (s : State) → pend app handler (pend app handler s) ≡ pend app handler s }
 {}
 
-/// Before that no handler comes: none of the events of a step before which a critical section is open is a handler's.
+/// No handler comes earlier: if a critical section is open before a step, none of the step's events is a handler's.
 pub fn no_handler_comes_inside()
     ensures { (app : Application) (limits : Limits) (handlers : List ℕ) (s : State) → IsState app s → is_critical s ≡ true
         → AllByRecursion (λ (e : Event). is_of_handler e.what ≡ false) (step app limits handlers s).log }

@@ -1,4 +1,4 @@
-//! What is true of variables and values.
+//! Laws of variables and values.
 ghost use Rattle.std.specs.Prelude.{◌≡◌, ◌<◌, ◌≤◌, ◌+◌, ◌*◌, ℕ, true, List, ◌∷◌, length, Option, Some, None, IfSome};
 ghost use Rattle.std.specs.Prelude.{option_and_then};
 ghost use Rattle.model.specs.declared.event.End.{End};
@@ -23,8 +23,9 @@ ghost use Rattle.model.specs.Switching.{is_ready};
 ghost use Rattle.model.specs.Values.{computed, value_of, variable_in};
 ghost use Rattle.laws.specs.Values.{NoHandlerStores, NoTaskStores};
 
-/// An op that has no value to work with isn't done, and none of a handler's ops after it. All that comes of it is that the run ends with
-/// this check. If a check has failed already, nothing comes of it. A task's op that is a misuse is that alone.
+/// An op that has no value to work with isn't executed, and neither are the handler's ops after it. Its only effect is that the
+/// run ends with this check. If a check has already failed, it has no effect. A task's op that is a misuse counts only as a
+/// misuse.
 pub fn ops_without_a_value_change_nothing()
     ensures task { (app : Application) (limits : Limits) (task : ℕ) (op : Op) (s : State) → is_ready s task ≡ true
         → op_at app task (progress_at s task).op_index ≡ Some op → misuse s task op ≡ None → lacks_value s task op ≡ true
@@ -39,7 +40,8 @@ pub fn ops_without_a_value_change_nothing()
     ensures first { (check end : End) (s : State) → s.stopped ≡ Some end → fail check s ≡ s }
 {}
 
-/// A store answers the value that it stores. A load of the variable right after it answers the same, of that task or of another.
+/// A store returns the value that it stores. A load of the variable right after it returns the same value, in the same task or in
+/// another.
 pub fn loads_find_what_was_stored()
     ensures store { (app : Application) (task : ℕ) (x : VariableId) (value : Value) (s : State) → task < length s.tasks
         → (progress_at (act app task (op.Value (Store x value)) s) task).answer ≡ value_of s.variables (progress_at s task).answer value }
@@ -48,8 +50,8 @@ pub fn loads_find_what_was_stored()
         → (progress_at (act app other (op.Value (Load x)) (act app task (op.Value (Store x value)) s)) other).answer ≡ Some n }
 {}
 
-/// Arithmetic is modulo 2^32: a sum is below that, and a number that is added and then subtracted again leaves what was there. A quotient
-/// is rounded down: times the divisor, plus the remainder, it is the number that was divided, and the remainder is below the divisor.
+/// Arithmetic is modulo 2^32: a sum is below that, and adding a number and then subtracting it restores the old value. A quotient
+/// is rounded down: the quotient times the divisor, plus the remainder, is the dividend, and the remainder is below the divisor.
 pub fn arithmetic_is_modular()
     ensures sum { (a b : ℕ) → IfSome (computed Add a b) (λ n. n < 4294967296) }
     ensures back { (a b : ℕ) → a < 4294967296 → b < 4294967296
@@ -58,8 +60,8 @@ pub fn arithmetic_is_modular()
         → (a ≡ quotient * b + rest) × (rest < b) }
 {}
 
-/// A variable keeps its value in a step if the running task's op doesn't store to it, and no handler of the application does. So it keeps
-/// its value over any number of such steps of a run, whatever is injected.
+/// A variable keeps its value in a step if neither the running task's op nor any handler of the application stores to it. So it
+/// keeps its value over any number of such steps of a run, whatever is injected.
 pub fn variables_keep_their_value()
     ensures step { (app : Application) (limits : Limits) (handlers : List ℕ) (x : ℕ) (s : State) → NoHandlerStores app x
         → NoTaskStores app x (before_step app handlers s)
@@ -69,8 +71,9 @@ pub fn variables_keep_their_value()
         → variable_in (state_after app limits plan (first + n)).variables x ≡ variable_in (state_after app limits plan first).variables x }
 {}
 
-/// A step in which a task doesn't run leaves its last answer. So does a step of the task that is a phase of a call that may wait, unless
-/// the call is complete after it. So an item that is the last answer is the one that it was when the call began.
+/// A step in which a task doesn't run leaves its last answer unchanged. A step of the task that is a phase of a call that may
+/// wait leaves it unchanged too, unless it completes the call. So if the call's item is the last answer, the item is the one from
+/// when the call began.
 pub fn last_answers_stay_in_a_call()
     ensures phase { (app : Application) (task object : ℕ) (access : Access Value) (ticks : Option ℕ) (s : State) → task < length s.tasks
         → (progress_at (act app task (op.Await object access ticks) s) task).op_index ≡ (progress_at s task).op_index
