@@ -1,13 +1,8 @@
 -- Points cut into even blocks, and the seats of a new tally.
-use Rattle.std.proofs.Common.{◌≡◌, ◌≤◌, ◌^◌, ℕ, zero, suc, List, sum, replicate, slice_index, refl, arith}
-use Rattle.deal.specs.Divisions.{rest_block}
+use Rattle.std.proofs.Common.{◌≡◌, ◌≤◌, ◌^◌, ℕ, zero, suc, List, replicate, slice_index, refl, arith}
 use Rattle.deal.specs.Parts.{zeros}
 use Rattle.deal.specs.Tallies.{Sheet, Tallied, fresh_seat}
 use Rattle.campaign.specs.Working.{AreReady}
-
-sum_rest : (n : ℕ) → sum (rest_block n) ≡ n
-sum_rest zero = refl
-sum_rest (suc n) = omega arith
 
 -- a seat that has added nothing has added nothing of a kind
 pub none_added : (kind : ℕ) → slice_index zeros kind ≡ 0

@@ -78,11 +78,6 @@ all_ended app plan limits run is passes =
 
 -- ---- what is awaited
 
--- something that holds whatever the task
-whatever : {X : Type 0} (o : Option X) (P : Type 0) → P → IfSome o (λ x. P)
-whatever None P p = tt
-whatever (Some x) P p = p
-
 ended_at : (ds : List Definition) (ts : List Task) (i : ℕ)
     → list_all (λ (t : Task). is_ended t.status) (without_endless ds ts) ≡ true
     → IfSome (slice_get ds i) (λ d. d.endless ≡ false → is_ended (get_or ts i no_task).status ≡ true)

@@ -57,15 +57,6 @@ later-taken s i status is l h = later-set s i (record (task_at s i) { status = s
 abbrev Spared : State → List ℕ → ℕ → State → Type 0
 Spared s is i t = (wake_time_of (status_at t i) ≡ None) ⊎ ((status_at t i ≡ status_at s i) × AllByRecursion (λ j. i ≢ j) is)
 
-spared-one : (s : State) (j : ℕ) (i : ℕ)
-    → (wake_time_of (status_at (make_ready j s) i) ≡ None) ⊎ (status_at (make_ready j s) i ≡ status_at s i)
-spared-one s j i =
-    let t : Task = record (task_at s j) { status = Ready s.next_ticket } in
-    elim (one_task s.tasks j t i) [
-      | inl e ↦ inl (ap wake_time_of (status_same (get_or (set s.tasks j t) i no_task) t e.0))
-      | inr e ↦ inr (status_same (get_or (set s.tasks j t) i no_task) (get_or s.tasks i no_task) e)
-    ]
-
 spared : (s : State) (is : List ℕ) (i : ℕ) → Spared s is i (for_each make_ready is s)
 spared s [] i = inr (refl, tt)
 spared s (j ∷ is) i = elim (spared (make_ready j s) is i) [

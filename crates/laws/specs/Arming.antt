@@ -10,7 +10,7 @@ use Rattle.model.specs.declared.plan.Injection.{Injection}
 use Rattle.model.specs.declared.source.SourceOp.TheVariants.{Arm, Disarm}
 use Rattle.model.specs.Application.{Application, Handler, op_at, ops_of}
 
--- The op arms this handler: a task's, and a handler's.
+-- The op of a task, or of a handler, arms this handler.
 abbrev pub arms : ℕ → Op → Bool
 arms handler (op.Source other Arm) = other == handler
 arms handler _ = false

@@ -1,4 +1,4 @@
--- Worked examples with branches, loops without end and `break`: applications, what is injected, and what their runs come to.
+-- Worked examples with branches, endless loops and `break`: applications, injections, and the runs that result.
 use Rattle.model.specs.declared.value.Value.TheVariants.{Number}
 use Rattle.std.specs.Prelude.{List, [], ◌∷◌, Some, None, codes}
 use Rattle.model.specs.declared.answer.AnswerCondition.TheVariants.{Is, IsNot, Below, Above}
@@ -16,13 +16,13 @@ use Rattle.laws.specs.HandlerExamples.{Injected, with_handler, interrupted_at, p
 
 -- ---- words
 
--- a loop that only a `break` ends begins
+-- the start of a loop that only a `break` ends
 abbrev pub forever : Op
 forever = Repeat None
 
 -- ---- conditions
 
--- Each condition, of the answer `none` and of a number: `none` is neither below nor above one. The last one ends the run.
+-- Each condition, on the answer `none` and on a number: `none` is neither below nor above a number. The last one ends the run.
 abbrev pub each_condition : Injected
 each_condition = record {
   app = the_application 0 (
@@ -56,7 +56,7 @@ three_tries =
     ∷ EndIf ∷ EndLoop
     ∷ Mark (Number 2) ∷ []) ∷ [])
 
--- The item comes when the first receive has timed out: the task takes the other branch then, and leaves the loop.
+-- The item comes after the first receive has timed out: the task then takes the other branch and leaves the loop.
 abbrev pub on_the_second_try : Injected
 on_the_second_try = record {
   app = three_tries;
@@ -71,7 +71,7 @@ on_the_second_try = record {
   };
 }
 
--- It comes when the loop is over.
+-- It comes after the loop has ended.
 abbrev pub too_late : Injected
 too_late = record {
   app = three_tries;
@@ -88,7 +88,7 @@ too_late = record {
   };
 }
 
--- Nothing comes.
+-- No item comes.
 abbrev pub nothing_comes : Injected
 nothing_comes = record {
   app = three_tries;
@@ -105,7 +105,7 @@ nothing_comes = record {
   };
 }
 
--- A `break` in two branches leaves the inner loop, which is for ever, and the outer one goes on.
+-- A `break` inside two branches leaves the inner loop, which is endless, and the outer loop continues.
 abbrev pub leaves_the_inner_loop : Injected
 leaves_the_inner_loop = record {
   app = the_application 0 (
@@ -123,7 +123,7 @@ leaves_the_inner_loop = record {
   };
 }
 
--- A loop for ever is left when an item comes.
+-- An endless loop is left when an item comes.
 abbrev pub until_an_item_comes : Injected
 until_an_item_comes = record {
   app = interrupted_at 3 (with_handler (Queue 1 ∷ []) (sends 0 7 ∷ []) (
@@ -143,7 +143,7 @@ until_an_item_comes = record {
 
 -- ---- the end of a script
 
--- An `if` that jumps over the last branch ends the script.
+-- An `if` that skips the last branch ends the script.
 abbrev pub ends_by_an_if : Injected
 ends_by_an_if = record {
   app = the_application 0 (a_task (codes "a") (If (Is (Some (Number 1))) ∷ Mark (Number 1) ∷ EndIf ∷ []) ∷ []);
@@ -156,7 +156,7 @@ ends_by_an_if = record {
   };
 }
 
--- So does an `else` that does.
+-- An `else` that skips the last branch does too.
 abbrev pub ends_by_an_else : Injected
 ends_by_an_else = record {
   app = the_application 0 (a_task (codes "a") (If (Is None) ∷ Mark (Number 1) ∷ Else ∷ Mark (Number 2) ∷ EndIf ∷ []) ∷ []);
@@ -169,7 +169,7 @@ ends_by_an_else = record {
   };
 }
 
--- So does a `break` out of the last loop.
+-- A `break` out of the last loop does too.
 abbrev pub ends_by_a_break : Injected
 ends_by_a_break = record {
   app = the_application 0 (a_task (codes "a") (forever ∷ If (Is None) ∷ Break ∷ EndIf ∷ EndLoop ∷ []) ∷ []);
@@ -202,7 +202,7 @@ eight_blocks = record {
 
 -- ---- the scheduler held
 
--- Branches may be taken while the scheduler is held, which may be released in one of them.
+-- Branches are allowed while the scheduler is held, and one of them may release it.
 abbrev pub branches_while_held : Injected
 branches_while_held = record {
   app =

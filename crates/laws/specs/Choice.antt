@@ -1,4 +1,4 @@
--- The choice, in words.
+-- The choice, in plain terms.
 use Rattle.std.specs.Prelude.{◌≡◌, ◌≤◌, ℕ, true, false, Option, Some, None}
 use Rattle.model.specs.State.{State, Status, Ready, task_at}
 use Rattle.model.specs.Switching.{is_ready}
@@ -8,7 +8,8 @@ abbrev pub IsNoEarlierThan : Status → Status → Type 0
 IsNoEarlierThan (Ready c) (Ready i) = c ≤ i
 IsNoEarlierThan c i = Unit {0}
 
--- A Ready task; none is of higher priority, and none of equal priority came earlier. Idle: no task is Ready.
+-- A Ready task: none has a higher priority, and none of equal priority has an earlier ticket. If idle is the choice, no task is
+-- Ready.
 pub record IsBestReady (s : State) (c : ℕ) : Type 0 where
   pub ready : is_ready s c ≡ true
   pub highest : (i : ℕ) → is_ready s i ≡ true → (task_at s i).priority ≤ (task_at s c).priority

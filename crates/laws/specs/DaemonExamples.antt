@@ -1,4 +1,4 @@
--- Worked examples with a daemon: applications, what is injected, and what their runs come to.
+-- Worked examples with a daemon: applications, injections, and the runs that result.
 use Rattle.std.specs.Prelude.{ℕ, true, false, List, [], ◌∷◌, Some, None, codes}
 use Rattle.model.specs.declared.object.ObjectKind.TheVariants.{Queue}
 use Rattle.model.specs.declared.op.Op.{Op}
@@ -23,7 +23,7 @@ sets mask = isr_op.Command (record { group = g; mask = mask; clear = false })
 abbrev pub clears : ℕ → IsrOp
 clears mask = isr_op.Command (record { group = g; mask = mask; clear = true })
 
--- The task waits for ever for one of the first two bits, and lets them be.
+-- The task waits forever for one of the first two bits, and leaves them set.
 abbrev pub wait_for_either : Op
 wait_for_either = WaitBits g (record { mask = 3; all = false; clear = false }) None
 
@@ -37,7 +37,7 @@ with_daemon size ops op =
     let app = with_handler (Queue size ∷ []) ops (a_task (codes "a") (op ∷ []) ∷ the_daemon ∷ []) in
     record app { group_count = 1; daemon = Some b }
 
--- The daemon has set bits, or cleared them, and answers with these.
+-- The daemon has set bits, or cleared them, and these are the result.
 abbrev pub has_set : ℕ → What
 has_set bits = what.Obeyed b false bits
 
@@ -46,11 +46,11 @@ has_cleared bits = what.Obeyed b true bits
 
 -- ---- bits set for a handler
 
--- A task waits for bits, and the daemon above it sets them for the handler.
+-- A task waits for bits, and the daemon, which has a higher priority, sets them for the handler.
 abbrev pub deferred : Application
 deferred = with_daemon 1 (sets 1 ∷ sets 2 ∷ []) wait_for_either
 
--- The daemon waits for a command, and the task for bits that nobody sets.
+-- The daemon waits for a command, and the task for bits that no one sets.
 abbrev pub deferred_base : Run
 deferred_base = record {
   events = event_at 4 0 (runs a) ∷ event_at 6 0 idles ∷ [];
@@ -59,8 +59,8 @@ deferred_base = record {
   end = Stuck;
 }
 
--- The handler comes while the task holds the scheduler in its wait. Its first command wakes the daemon, and there is no room for
--- the second one.
+-- The handler comes while the task holds the scheduler in its wait. Its first command wakes the daemon, and the second one finds
+-- no room.
 abbrev pub deferred_row : Row
 deferred_row = record {
   app = deferred;
@@ -78,8 +78,8 @@ deferred_row = record {
 
 -- ---- runs
 
--- The handler comes in the daemon's own window: the daemon is woken in its call, takes one command after the other, and waits
--- again.
+-- The handler comes in the daemon's own window: the daemon is woken in its call, takes both commands one after the other, and
+-- waits again.
 abbrev pub in_its_window : Injected
 in_its_window = record {
   app = with_daemon 2 (sets 4 ∷ clears 4 ∷ []) wait_for_either;
@@ -94,7 +94,8 @@ in_its_window = record {
   };
 }
 
--- At the tick at which the task comes to its end a command comes: the run passes, though the daemon runs and has it to do.
+-- A command arrives at the tick at which the task ends: the run passes, although the daemon runs and still has the command to
+-- execute.
 abbrev pub passes_with_a_command : Injected
 passes_with_a_command = record {
   app = interrupted_at 1 (with_daemon 1 (sets 1 ∷ []) (Work 1));

@@ -1,4 +1,4 @@
--- Worked examples of the end state: applications, what is injected, and the state after this many steps.
+-- Worked examples of the end state: applications, injections, and the state after this many steps.
 use Rattle.model.specs.declared.value.Arithmetic.TheVariants.{Add}
 use Rattle.model.specs.declared.value.Value.TheVariants.{Number, Answer}
 use Rattle.std.specs.Prelude.{◌≡◌, ℕ, List, [], ◌∷◌, Some, None, codes}
@@ -20,14 +20,14 @@ use Rattle.laws.specs.NotificationExamples.{alone_with, wait_clearing}
 
 -- ---- words
 
--- an application, what is injected, and the state after this many steps
+-- an application, its injections, and the state after this many steps
 pub record Stopped : Type 0 where
   pub app : Application
   pub plan : List Injection
   pub steps : ℕ
   pub stands : EndState
 
--- That is the state after the steps.
+-- The state after the steps is the given one.
 abbrev pub StandsSo : Stopped → Type 0
 StandsSo e = end_state_of (state_after e.app e.app.limits e.plan e.steps) ≡ e.stands
 
@@ -37,7 +37,7 @@ StandsSo e = end_state_of (state_after e.app e.app.limits e.plan e.steps) ≡ e.
 abbrev pub one_wait : Application
 one_wait = with_handler (Queue 1 ∷ []) (sends 0 7 ∷ []) (a_task (codes "a") (on_queue Receive 9 ∷ []) ∷ [])
 
--- The task has tried, and runs on.
+-- The task has tried, and is still running.
 abbrev pub tried : Stopped
 tried = record { app = one_wait; plan = []; steps = 1; stands = record { situations = Runs 0 ∷ []; held = []; variables = [] } }
 
@@ -59,7 +59,7 @@ placed = record {
   stands = record { situations = Waits 0 (Some 9) ∷ []; held = []; variables = [] };
 }
 
--- The handler has sent, before it was put into its list.
+-- The handler sent an item before the task was put into its list.
 abbrev pub woken : Stopped
 woken = record {
   app = one_wait;
@@ -68,7 +68,7 @@ woken = record {
   stands = record { situations = Awake 0 ∷ []; held = []; variables = [] };
 }
 
--- The queue is unlocked, and the call holds the scheduler still.
+-- The queue is unlocked, and the call still holds the scheduler.
 abbrev pub unlocked : Stopped
 unlocked = record {
   app = one_wait;
@@ -93,8 +93,8 @@ stuck = record {
   stands = record { situations = Waits 2 None ∷ Waits 2 None ∷ []; held = held_by m b ∷ held_by n a ∷ []; variables = [] };
 }
 
--- the same beside a task that suspends itself, one that only asks the time, and one that computes;
--- the handler resumes the first of these
+-- the same, with a task that suspends itself, one that only reads the time, and one that computes; the handler resumes the first
+-- of these
 abbrev pub five_tasks : Application
 five_tasks =
     let app = with_objects (Mutex ∷ Mutex ∷ []) (
@@ -166,13 +166,13 @@ nobody_notifies = record {
 
 -- ---- variables
 
--- A task locks a mutex, and adds 4 to a variable, which becomes another. A handler stores the first.
+-- A task locks a mutex, loads a variable, adds 4 and stores the sum to another variable. A handler stores to the first.
 abbrev pub stores : Application
 stores =
     with_variables (3 ∷ 0 ∷ []) (with_handler (Mutex ∷ []) (isr_store x (Number 1) ∷ []) (
     a_task (codes "a") (lock m 0 ∷ load x ∷ compute Add (Number 4) ∷ store y Answer ∷ []) ∷ []))
 
--- The handler has stored it before the load.
+-- The handler stored its value before the load.
 abbrev pub both_stored : Stopped
 both_stored = record {
   app = stores;

@@ -1,4 +1,4 @@
--- Worked examples with endless tasks: applications, and what their runs come to.
+-- Worked examples with endless tasks: applications, and the runs that result.
 use Rattle.model.specs.declared.value.Value.TheVariants.{Number}
 use Rattle.std.specs.Prelude.{ℕ, true, List, [], ◌∷◌, Some, codes}
 use Rattle.model.specs.declared.answer.AnswerCondition.TheVariants.{Is}
@@ -13,13 +13,13 @@ use Rattle.laws.specs.BranchExamples.{forever}
 
 -- ---- words
 
--- a task of this priority for whose end no run waits
+-- a task of this priority that no run waits for
 abbrev pub endless_task : ℕ → List ℕ → List Op → Definition
 endless_task priority name script = record (a_task_of priority name script) { endless = true }
 
 -- ---- the table
 
--- A run passes when the one task has ended for which it waits.
+-- A run passes when the only task that it waits for has ended.
 abbrev pub serves_and_passes : Injected
 serves_and_passes = record {
   app = with_queue (
@@ -38,7 +38,7 @@ serves_and_passes = record {
   };
 }
 
--- The server finds what it does not expect.
+-- The server receives an item that it does not expect.
 abbrev pub serves_and_fails : Injected
 serves_and_fails = record {
   app = with_queue (
@@ -55,7 +55,7 @@ serves_and_fails = record {
   };
 }
 
--- Nobody sends: the run is stuck, since it waits for a task that is not endless.
+-- No task sends an item: the run is stuck, since it waits for a task that is not endless.
 abbrev pub nothing_to_serve : Injected
 nothing_to_serve = record {
   app = with_queue (

@@ -1,4 +1,4 @@
--- Worked examples: applications, and what their runs come to.
+-- Worked examples: applications, and the runs that result.
 use Rattle.model.specs.declared.value.Value as value
 use Rattle.model.specs.declared.value.Value.TheVariants.{Number}
 use Rattle.std.specs.Prelude.{ℕ, false, List, [], ◌∷◌, Some, None, codes}
@@ -19,7 +19,7 @@ use Rattle.model.specs.Run.{Run, IsRun}
 
 -- ---- words
 
--- limits that no example comes to
+-- limits that no example reaches
 abbrev pub wide : Limits
 wide = record { ticks = 1000000; steps = 1000000 }
 
@@ -59,7 +59,7 @@ with_queue tasks = with_objects (Queue 1 ∷ []) tasks
 abbrev pub on_queue : Access value.Value → ℕ → Op
 on_queue access ticks = Await 0 access (Some ticks)
 
--- the same, which may wait for ever
+-- the same without a timeout
 abbrev pub on_queue_forever : Access value.Value → Op
 on_queue_forever access = Await 0 access None
 
@@ -79,7 +79,7 @@ c = 2
 abbrev pub event_at : ℕ → ℕ → What → Event
 event_at step tick w = record { step = step; tick = tick; what = w }
 
--- the op of this index is complete, and answered with this number
+-- the op of this index has completed with this result
 abbrev pub call : ℕ → ℕ → ℕ → What
 call task op_index answer = what.Call task op_index answer
 
@@ -91,12 +91,12 @@ runs task = what.Run (Some task)
 abbrev pub idles : What
 idles = what.Run None
 
--- an application, and what its run comes to
+-- an application, and its run
 pub record Example : Type 0 where
   pub app : Application
   pub run : Run
 
--- The application's run, into which nothing is injected, comes to that.
+-- The application's run without injections is the given one.
 abbrev pub Runs : Example → Type 0
 Runs e = IsRun e.app [] e.app.limits e.run
 
@@ -144,7 +144,7 @@ delay_one = record {
   };
 }
 
--- two who sleep until one time, which lies past the wrap of the tick, wake in the order in which they began
+-- two tasks that sleep until the same time, past the wrap of the tick, wake in the order in which they began
 abbrev pub across_the_wrap : Example
 across_the_wrap = record {
   app = the_application 4294967294 (
@@ -163,7 +163,7 @@ across_the_wrap = record {
   };
 }
 
--- `delay_until` goes on where its time has come, and otherwise sleeps; the next one counts from that time
+-- `delay_until` continues at once if its time has come, and otherwise sleeps; the next one counts from that time
 abbrev pub periodic : Example
 periodic = record {
   app = the_application 0 (a_task (codes "a") (Work 3 ∷ DelayUntil 2 ∷ DelayUntil 2 ∷ Time ∷ []) ∷ []);
@@ -193,7 +193,7 @@ failed_expect = record {
 
 -- ---- queues
 
--- a receive whose timeout comes
+-- a receive that times out
 abbrev pub times_out : Example
 times_out = record {
   app = with_queue (a_task (codes "a") (on_queue Receive 5 ∷ Expect (Is None) ∷ []) ∷ []);
@@ -206,7 +206,7 @@ times_out = record {
   };
 }
 
--- a peek that is woken passes the wake on to the next who waits
+-- a peek that is woken passes the wake on to the next waiting task
 abbrev pub peek_passes_on : Example
 peek_passes_on = record {
   app = with_queue (
@@ -238,7 +238,7 @@ send_wakes = record {
   };
 }
 
--- two wait for room in a full queue: the one of higher priority, which came first, gets it first
+-- two tasks wait for room in a full queue: the one of higher priority, which came first, gets it first
 abbrev pub two_writers : Example
 two_writers = record {
   app = with_queue (

@@ -1,4 +1,4 @@
--- Worked examples with interrupt handlers: applications, what is injected, and what their runs come to.
+-- Worked examples with interrupt handlers: applications, injections, and the runs that result.
 use Rattle.model.specs.declared.value.Value.TheVariants.{Number}
 use Rattle.std.specs.Prelude.{ℕ, Bool, true, false, List, [], ◌∷◌, Some, None, codes}
 use Rattle.model.specs.declared.object.ObjectKind.{ObjectKind}
@@ -26,7 +26,7 @@ h = 0
 abbrev pub a_handler : List ℕ → List IsrOp → Handler
 a_handler name ops = record { name = name; ops = ops; armed = true; apart = 0 }
 
--- an application of these queues, this handler and these tasks, from time 0 on
+-- an application of these queues, this handler and these tasks that starts at 0
 abbrev pub with_handler : List ObjectKind → List IsrOp → List Definition → Application
 with_handler objects ops tasks = record {
   start = 0;
@@ -42,11 +42,11 @@ with_handler objects ops tasks = record {
   points = [];
 }
 
--- the same, where the handler comes at this elapsed tick too
+-- the same, but the handler also comes at this elapsed tick
 abbrev pub interrupted_at : ℕ → Application → Application
 interrupted_at tick app = record app { interrupts = record { tick = tick; handler = h } ∷ [] }
 
--- The handler sends an item to the queue, or asks for one.
+-- The handler sends an item to the queue, or receives one.
 abbrev pub sends : ℕ → ℕ → IsrOp
 sends queue item = isr_op.Do queue (Send (Number item))
 
@@ -57,21 +57,21 @@ receives queue = isr_op.Do queue Receive
 abbrev pub at : ℕ → Injection
 at step = record { step = step; handler = h }
 
--- the point of that alone
+-- the point with only that injection
 abbrev pub point_at : ℕ → List Injection
 point_at step = at step ∷ []
 
--- the handler's op of this index is answered with this number
+-- the handler's op of this index has completed with this result
 abbrev pub isr : ℕ → ℕ → What
 isr op_index answer = what.Isr h op_index answer
 
--- an application, what is injected, and what its run comes to
+-- an application, its injections, and its run
 pub record Injected : Type 0 where
   pub app : Application
   pub plan : List Injection
   pub run : Run
 
--- The application's run with this plan comes to that.
+-- The application's run with this plan is the given one.
 abbrev pub RunsWith : Injected → Type 0
 RunsWith e = IsRun e.app e.plan e.app.limits e.run
 
@@ -82,13 +82,13 @@ pub record Row : Type 0 where
   pub reached : Bool
   pub row : Run
 
--- The point's row is that.
+-- The point's row is the given one.
 abbrev pub RowIs : Row → Type 0
 RowIs e = IsRow e.app e.app.limits e.point e.reached e.row
 
 -- ---- one receive, with a handler at each of its phases and after them
 
--- The handler sends an item and takes it back, and the task waits for one tick.
+-- The handler sends an item and receives it again, and the task waits for one tick.
 abbrev pub one_receive : Application
 one_receive =
     with_handler (Queue 1 ∷ []) (sends 0 7 ∷ receives 0 ∷ []) (a_task (codes "a") (on_queue Receive 1 ∷ []) ∷ [])
@@ -97,7 +97,7 @@ one_receive =
 abbrev pub sent_and_received : ℕ → ℕ → List Event → List Event
 sent_and_received step tick rest = event_at step tick (isr 0 1) ∷ event_at step tick (isr 1 7) ∷ rest
 
--- Before the wait has begun, nobody is woken: the task waits for its tick.
+-- Before the wait has begun, no task is woken: the task waits for its tick.
 abbrev pub before_the_wait : ℕ → Row
 before_the_wait step = record {
   app = one_receive;
@@ -113,7 +113,7 @@ before_the_wait step = record {
   };
 }
 
--- Once it has begun, the task is woken in its own call, finds nothing, and waits again until the same deadline.
+-- After the wait has begun, the task is woken in its own call, finds nothing, and waits again until the same deadline.
 abbrev pub in_the_wait : ℕ → Row
 in_the_wait step = record {
   app = one_receive;
@@ -162,7 +162,7 @@ at_the_last_step = record {
   };
 }
 
--- at the end of the base run, which is the row then
+-- at the end of the base run, so the row is the base run
 abbrev pub past_the_end : Row
 past_the_end = record {
   app = one_receive;
@@ -184,7 +184,7 @@ rows =
 
 -- ---- one receive, with the handler at two of its phases
 
--- The first wakes the task, and the second finds nobody who waits.
+-- The first wakes the task, and the second finds no waiting task.
 abbrev pub twice : Row
 twice = record {
   app = one_receive;
@@ -221,7 +221,7 @@ past_the_base_run = record {
 abbrev pub past_the_row : Row
 past_the_row = record at_the_last_step { point = at 6 ∷ at 7 ∷ [] }
 
--- the first at the end of the base run, which is the row then
+-- the first at the end of the base run, so the row is the base run
 abbrev pub from_the_end_on : Row
 from_the_end_on = record past_the_end { point = at 7 ∷ at 8 ∷ [] }
 
@@ -231,8 +231,8 @@ rows_of_two = twice ∷ past_the_base_run ∷ past_the_row ∷ from_the_end_on �
 
 -- ---- wakes through a locked queue
 
--- Wakes through another queue come at once, those through the locked one at its unlock: so the task that was woken last
--- comes first.
+-- A wake through another queue takes effect at once, and a wake through the locked queue at its unlock. So the task that was
+-- woken last runs first.
 abbrev pub two_queues : Injected
 two_queues = record {
   app = with_handler (Queue 1 ∷ Queue 1 ∷ []) (sends 0 1 ∷ sends 1 2 ∷ []) (
@@ -248,7 +248,7 @@ two_queues = record {
   };
 }
 
--- Two items for three who wait: the best two are woken, and the last one, whose call it is, waits on.
+-- Two items for three waiting tasks: the best two are woken, and the last one, whose call holds the lock, continues to wait.
 abbrev pub fewer_items : Injected
 fewer_items = record {
   app = with_handler (Queue 4 ∷ []) (sends 0 1 ∷ sends 0 2 ∷ []) (
@@ -266,7 +266,7 @@ fewer_items = record {
   };
 }
 
--- Three items for two who wait: both are woken, and an item is left.
+-- Three items for two waiting tasks: both are woken, and one item is left.
 abbrev pub more_items : Injected
 more_items = record {
   app = with_handler (Queue 4 ∷ []) (sends 0 1 ∷ sends 0 2 ∷ sends 0 3 ∷ []) (
@@ -283,7 +283,7 @@ more_items = record {
   };
 }
 
--- One who waits for room is woken, and the handler fills the room again.
+-- A task that waits for room is woken, and the handler fills the room again.
 abbrev pub room_taken : Injected
 room_taken = record {
   app = with_handler (Queue 1 ∷ []) (receives 0 ∷ sends 0 9 ∷ []) (
@@ -301,8 +301,8 @@ room_taken = record {
 
 -- ---- interrupts
 
--- A base interrupt wakes a task, and a higher one that wakes at the same tick takes the item: it finds nothing, and waits
--- again until the same deadline.
+-- A base interrupt wakes a task, and a higher task that wakes at the same tick takes the item. The first task finds nothing, and
+-- waits again until the same deadline.
 abbrev pub finds_nothing : Injected
 finds_nothing = record {
   app = interrupted_at 2 (with_handler (Queue 1 ∷ []) (sends 0 5 ∷ []) (
@@ -319,7 +319,7 @@ finds_nothing = record {
   };
 }
 
--- While an interrupt is to come, a run isn't stuck.
+-- A run isn't stuck while an interrupt is yet to arrive.
 abbrev pub still_to_come : Injected
 still_to_come = record {
   app = interrupted_at 2 (with_handler (Queue 1 ∷ []) (sends 0 5 ∷ []) (a_task (codes "a") (on_queue_forever Receive ∷ []) ∷ []));
@@ -334,7 +334,7 @@ still_to_come = record {
   };
 }
 
--- what ops of a handler answer: `none` of an empty queue, 1 and 0 of a send with and without room
+-- the results of a handler's ops: `none` from an empty queue, 1 and 0 from a send with and without room
 abbrev pub answers : Injected
 answers = record {
   app = with_handler (Queue 1 ∷ []) (isr_op.Mark (Number 3) ∷ receives 0 ∷ sends 0 8 ∷ sends 0 9 ∷ isr_op.Do 0 Peek ∷ []) (

@@ -1,4 +1,4 @@
--- Worked examples with event groups, suspended tasks and a held scheduler: applications, and what their runs come to.
+-- Worked examples with event groups, suspended tasks and a held scheduler: applications, and the runs that result.
 use Rattle.model.specs.declared.value.Value.TheVariants.{Number}
 use Rattle.std.specs.Prelude.{ℕ, true, false, List, [], ◌∷◌, None, codes}
 use Rattle.model.specs.declared.object.ObjectKind.TheVariants.{Queue}
@@ -23,17 +23,17 @@ g = 0
 abbrev pub with_group : List Definition → Application
 with_group tasks = record (the_application 0 tasks) { group_count = 1 }
 
--- The task waits for ever for one of these bits, and clears them.
+-- The task waits forever for one of these bits, and clears them.
 abbrev pub wait_for_one : (mask : ℕ) → Op
 wait_for_one mask = WaitBits g (record { mask = mask; all = false; clear = true }) None
 
--- The task waits for ever for all of these bits, and lets them be.
+-- The task waits forever for all of these bits, and leaves them set.
 abbrev pub wait_for_all : (mask : ℕ) → Op
 wait_for_all mask = WaitBits g (record { mask = mask; all = true; clear = false }) None
 
 -- ---- event groups
 
--- One set meets two who wait: both are woken, and both see the bits as they were set, though one of them clears its own.
+-- One set wakes two waiting tasks. Both see the bits as they were set, though one of them clears its own.
 abbrev pub one_set_wakes_two : Injected
 one_set_wakes_two = record {
   app = with_group (
@@ -53,7 +53,7 @@ one_set_wakes_two = record {
 
 -- ---- suspended tasks
 
--- A sleeper that is suspended and resumed sleeps no longer: what was left of its delay is cut off.
+-- A sleeping task that is suspended and resumed doesn't sleep again: the rest of its delay is cut off.
 abbrev pub sleep_cut_off : Injected
 sleep_cut_off = record {
   app = the_application 0 (
@@ -88,7 +88,7 @@ cut_off_and_periodic = record {
   };
 }
 
--- A receive whose caller is suspended while it waits, and resumed, tries again, and waits until its old deadline.
+-- A receive is suspended while it waits, and resumed. It tries again, and waits until its old deadline.
 abbrev pub resumed_with_its_deadline : Injected
 resumed_with_its_deadline = record {
   app = with_queue (
@@ -108,8 +108,8 @@ resumed_with_its_deadline = record {
 
 -- ---- the scheduler held
 
--- While the scheduler is held, ticks pass and an interrupt comes, which wakes a higher task: it runs when the scheduler is
--- released, and the ticks are made up for then.
+-- While the scheduler is held, ticks pass and an interrupt wakes a higher task. When the scheduler is released, the held ticks
+-- are applied and the task runs.
 abbrev pub interrupt_while_held : Injected
 interrupt_while_held = record {
   app = interrupted_at 2 (with_handler (Queue 1 ∷ []) (sends 0 4 ∷ []) (
@@ -125,7 +125,7 @@ interrupt_while_held = record {
   };
 }
 
--- A call that may wait is a misuse while the scheduler is held, also where it wouldn't wait.
+-- A call that may wait is a misuse while the scheduler is held, even if it wouldn't wait.
 abbrev pub waits_while_held : Injected
 waits_while_held = record {
   app = with_queue (a_task (codes "a") (SuspendAll ∷ on_queue (Send (Number 1)) 0 ∷ []) ∷ []);
@@ -133,7 +133,7 @@ waits_while_held = record {
   run = record { events = event_at 0 0 (call a 0 0) ∷ []; steps = 2; ticks = 0; end = Misuse a 1 WhileSuspended };
 }
 
--- The scheduler is released, and nobody held it.
+-- A task releases the scheduler, which isn't held.
 abbrev pub released_and_not_held : Injected
 released_and_not_held = record {
   app = the_application 0 (a_task (codes "a") (ResumeAll ∷ []) ∷ []);
@@ -141,7 +141,7 @@ released_and_not_held = record {
   run = record { events = []; steps = 1; ticks = 0; end = Misuse a 0 NotSuspended };
 }
 
--- A task comes to the end of its script and holds the scheduler.
+-- A task reaches the end of its script while it holds the scheduler.
 abbrev pub ends_and_holds : Injected
 ends_and_holds = record {
   app = the_application 0 (a_task (codes "a") (SuspendAll ∷ []) ∷ []);

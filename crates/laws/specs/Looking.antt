@@ -1,10 +1,10 @@
--- By what a run is stopped, in words.
+-- What stops a run, in plain terms.
 use Rattle.std.specs.Prelude.{Bool, true, false, Option, Some}
 use Rattle.model.specs.declared.event.End.{End}
 use Rattle.model.specs.declared.event.End.TheVariants.{Misuse}
 use Rattle.model.specs.State.{State}
 
--- what stops a run is a misuse
+-- the cause of a run's stop is a misuse
 abbrev pub is_by_misuse : Option End → Bool
 is_by_misuse (Some (Misuse task op_index kind)) = true
 is_by_misuse _ = false

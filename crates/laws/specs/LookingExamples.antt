@@ -1,4 +1,4 @@
--- Worked examples of handlers that look at what was answered: applications, what is injected, and what their runs come to.
+-- Worked examples of handlers that check their last answer: applications, injections, and the runs that result.
 use Rattle.model.specs.declared.value.Value.TheVariants.{Number}
 use Rattle.std.specs.Prelude.{ℕ, List, [], ◌∷◌, Some, None, codes}
 use Rattle.model.specs.declared.answer.AnswerCondition.TheVariants.{Is, IsNot}
@@ -15,14 +15,14 @@ use Rattle.laws.specs.HandlerExamples.{Injected, with_handler, interrupted_at, p
 
 -- ---- a handler that expects room
 
--- A task receives twice, and sleeps between. The handler, which sends an item and expects that there was room, comes at tick 1, and
--- wherever else a plan has it.
+-- A task receives twice, and sleeps in between. The handler sends an item and expects that there was room. It comes at tick 1,
+-- and at every step at which the plan injects it.
 abbrev pub expects_room : Application
 expects_room =
     interrupted_at 1 (with_handler (Queue 1 ∷ []) (sends 0 7 ∷ isr_op.Expect (Is (Some (Number 1))) ∷ []) (
     a_task (codes "a") (on_queue Receive 2 ∷ Delay 1 ∷ on_queue Receive 0 ∷ []) ∷ []))
 
--- It comes at its tick alone: the second receive is in vain.
+-- It comes only at its tick: the second receive finds nothing.
 abbrev pub comes_at_its_tick : Injected
 comes_at_its_tick = record {
   app = expects_room;
@@ -53,7 +53,7 @@ comes_at_the_start = record {
   };
 }
 
--- It comes before that has found that it waits.
+-- It comes before the receive has decided to wait.
 abbrev pub comes_before_a_wait : Injected
 comes_before_a_wait = record {
   app = expects_room;
@@ -68,7 +68,7 @@ comes_before_a_wait = record {
   };
 }
 
--- It comes in its wait, before this step.
+-- It comes during the receive's wait, before this step.
 abbrev pub comes_in_a_wait : ℕ → Injected
 comes_in_a_wait step = record {
   app = expects_room;
@@ -99,7 +99,7 @@ comes_beside_idle = record {
   };
 }
 
--- It comes when the item of its tick is still there: there is no room, and the run ends behind the step.
+-- It comes while the item of its tick is still in the queue: there is no room, and the run ends after the step.
 abbrev pub finds_no_room : Injected
 finds_no_room = record {
   app = expects_room;
@@ -130,7 +130,7 @@ comes_before_a_sleep = record {
   };
 }
 
--- It comes in its sleep.
+-- It comes while the task sleeps.
 abbrev pub comes_in_a_sleep : Injected
 comes_in_a_sleep = record {
   app = expects_room;
@@ -164,8 +164,8 @@ comes_at_the_end = record {
 
 -- ---- what a failed check leaves undone
 
--- A handler's last answer is `none` at first, and a mark leaves it. What is behind the check that fails isn't done. A task's check
--- fails in the same step, and the run's is the first.
+-- A handler's last answer is `none` at first, and a mark leaves it unchanged. Ops after the failed check aren't executed. A
+-- task's check fails in the same step, but the first failed check decides the run's end.
 abbrev pub answers_none_at_first : Injected
 answers_none_at_first = record {
   app = with_handler [] (
@@ -181,7 +181,8 @@ answers_none_at_first = record {
   };
 }
 
--- It comes twice before a step. Its first check fails, and then, with the other answer, another one, which doesn't count.
+-- The handler comes twice before a step. Its first check fails. The second time the answer differs and another check fails, which
+-- doesn't count.
 abbrev pub fails_twice : Injected
 fails_twice = record {
   app = with_handler (Queue 1 ∷ []) (
@@ -198,7 +199,7 @@ fails_twice = record {
   };
 }
 
--- The step whose handler fails is a misuse of its task, and that is the run's end.
+-- The handler's check fails before a step in which the task commits a misuse. The run ends with the misuse.
 abbrev pub fails_before_a_misuse : Injected
 fails_before_a_misuse = record {
   app = with_handler [] (isr_op.Expect (Is (Some (Number 0))) ∷ []) (a_task (codes "a") (ResumeAll ∷ []) ∷ []);
@@ -213,7 +214,7 @@ fails_before_a_misuse = record {
 
 -- ---- branches
 
--- The handler sends an item; where there is no room it takes the old one, and otherwise it writes a mark. It comes at tick 2 too.
+-- The handler sends an item. If there is no room, it receives the old one; otherwise it writes a mark. It also comes at tick 2.
 abbrev pub makes_room : Application
 makes_room =
     interrupted_at 2 (with_handler (Queue 1 ∷ []) (
@@ -222,7 +223,7 @@ makes_room =
     ∷ isr_op.Expect (IsNot (Some (Number 0))) ∷ []) (
     a_task (codes "a") (Work 2 ∷ MessagesWaiting 0 ∷ []) ∷ []))
 
--- At its tick alone it finds room.
+-- It comes only at its tick, and finds room.
 abbrev pub finds_room : Injected
 finds_room = record {
   app = makes_room;
@@ -237,7 +238,7 @@ finds_room = record {
   };
 }
 
--- It comes before the first step too: at its tick the item is still there.
+-- It also comes before the first step: at its tick the item is still there.
 abbrev pub makes_room_at_its_tick : Injected
 makes_room_at_its_tick = record {
   app = makes_room;
@@ -253,7 +254,7 @@ makes_room_at_its_tick = record {
   };
 }
 
--- It comes one tick before its own.
+-- It also comes one tick before its own.
 abbrev pub makes_room_a_tick_later : Injected
 makes_room_a_tick_later = record {
   app = makes_room;
@@ -269,7 +270,7 @@ makes_room_a_tick_later = record {
   };
 }
 
--- It comes before the step behind its tick.
+-- It also comes before the step after its tick.
 abbrev pub makes_room_before_a_step : Injected
 makes_room_before_a_step = record {
   app = makes_room;
@@ -285,7 +286,7 @@ makes_room_before_a_step = record {
   };
 }
 
--- Branches in branches: those that aren't taken are passed whole.
+-- Nested branches: those that aren't taken are skipped as a whole.
 abbrev pub branches_in_branches : Injected
 branches_in_branches = record {
   app = with_handler [] (

@@ -1,4 +1,4 @@
--- Worked examples with semaphores and mutexes: applications, and what their runs come to.
+-- Worked examples with semaphores and mutexes: applications, and the runs that result.
 use Rattle.model.specs.declared.value.Value.TheVariants.{Number}
 use Rattle.std.specs.Prelude.{ℕ, List, [], ◌∷◌, Some, None, codes}
 use Rattle.model.specs.declared.object.ObjectKind.TheVariants.{Semaphore, Mutex}
@@ -28,7 +28,7 @@ n = 1
 abbrev pub s : ℕ
 s = 0
 
--- The task locks a mutex, and waits for it for this many ticks, or for ever.
+-- The task locks a mutex, and waits for it for this many ticks, or forever.
 abbrev pub lock : ℕ → ℕ → Op
 lock mutex ticks = Await mutex Lock (Some ticks)
 
@@ -49,8 +49,8 @@ give semaphore = Do semaphore Give
 
 -- ---- priority inheritance
 
--- A low task holds the mutex for which a high one waits. It computes with the high priority, while one between them stays
--- Ready. It has its own priority again when it has given the mutex back.
+-- A low task holds the mutex that a high one waits for. It computes with the high priority while a task of medium priority stays
+-- Ready. It returns to its own priority when it gives the mutex back.
 abbrev pub inversion_cured : Example
 inversion_cured = record {
   app = with_objects (Mutex ∷ []) (
@@ -69,8 +69,8 @@ inversion_cured = record {
   };
 }
 
--- The best waiter waited in vain: the holder falls to the priority of the next one, not to its own, and shares its ticks
--- with a task of that priority.
+-- The best waiter times out: the holder falls to the priority of the next waiter, not to its own, and shares its ticks with a
+-- task of that priority.
 abbrev pub falls_to_the_next : Example
 falls_to_the_next = record {
   app = with_objects (Mutex ∷ []) (
@@ -90,7 +90,7 @@ falls_to_the_next = record {
   };
 }
 
--- The same, but that the holder has a second mutex: it doesn't fall, and computes before that task.
+-- The same, but the holder has a second mutex: it doesn't fall, and computes before that task.
 abbrev pub keeps_it_for_another : Example
 keeps_it_for_another = record {
   app = with_objects (Mutex ∷ Mutex ∷ []) (
@@ -111,8 +111,8 @@ keeps_it_for_another = record {
   };
 }
 
--- Of two mutexes one is given back, which wakes the task that waits for it. The holder keeps the priority that it took
--- from that task, and runs on beside it until it has given back the other.
+-- A task gives back one of two mutexes, which wakes the task that waits for it. The holder keeps the priority that it inherited
+-- from that task, and continues to run until it has given back the other mutex.
 abbrev pub one_of_two_given : Example
 one_of_two_given = record {
   app = with_objects (Mutex ∷ Mutex ∷ []) (
@@ -130,8 +130,8 @@ one_of_two_given = record {
   };
 }
 
--- A task waits in vain for the mutex that it holds, and inherits from nobody there: it keeps the priority that it took
--- through another mutex, and so computes before one between.
+-- A task waits for a mutex that it holds itself, until its timeout, and inherits from no task there. It keeps the priority that
+-- it inherited through another mutex, and so computes before a task of medium priority.
 abbrev pub locks_its_own : Example
 locks_its_own = record {
   app = with_objects (Mutex ∷ Mutex ∷ []) (
@@ -153,7 +153,7 @@ locks_its_own = record {
 
 -- ---- misuse, and semaphores
 
--- A task gives back a mutex that another holds: that ends the run, and nothing else comes of it.
+-- A task gives back a mutex that another holds: this ends the run, and has no other effect.
 abbrev pub not_the_holder : Example
 not_the_holder = record {
   app = with_objects (Mutex ∷ []) (a_task_of 2 (codes "a") (lock m 0 ∷ []) ∷ a_task_of 1 (codes "b") (unlock m ∷ []) ∷ []);

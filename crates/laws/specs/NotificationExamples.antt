@@ -1,4 +1,4 @@
--- Worked examples with notifications: applications, what is injected, and what their runs come to.
+-- Worked examples with notifications: applications, injections, and the runs that result.
 use Rattle.std.specs.Prelude.{ℕ, true, false, List, [], ◌∷◌, Some, None, codes}
 use Rattle.model.specs.declared.answer.AnswerCondition.TheVariants.{Is}
 use Rattle.model.specs.declared.value.Value as value
@@ -26,14 +26,15 @@ use Rattle.laws.specs.SectionExamples.{mark}
 abbrev pub notifies : ℕ → NotifyAction value.Value → IsrOp
 notifies task action = isr_op.Notify task action
 
--- The task takes its count, all of it or one, and waits for this many ticks at most.
+-- The task takes its whole count, or one of it, and waits for at most this many ticks.
 abbrev pub take_all : ℕ → Op
 take_all ticks = AwaitNotification (Take true) (Some ticks)
 
 abbrev pub take_one : ℕ → Op
 take_one ticks = AwaitNotification (Take false) (Some ticks)
 
--- It waits for a notification for this many ticks at most, and clears these bits at the start and these at the end.
+-- The task waits for a notification for at most this many ticks, and clears the first bits at its start and the others at its
+-- end.
 abbrev pub wait_clearing : (entry exit ticks : ℕ) → Op
 wait_clearing entry exit ticks = AwaitNotification (Wait (record { entry = entry; exit = exit })) (Some ticks)
 
@@ -48,7 +49,7 @@ abbrev pub one_take : Application
 one_take =
     with_handler [] (notifies a Increment ∷ []) (a_task_of 2 (codes "a") (take_all 5 ∷ Mark (Number 1) ∷ []) ∷ [])
 
--- Before it begins, the take finds the count.
+-- The handler comes before the take begins: the take finds the count.
 abbrev pub before_the_take : Injected
 before_the_take = record {
   app = one_take;
@@ -61,7 +62,7 @@ before_the_take = record {
   };
 }
 
--- Between its start and the switch: the task is Ready at once, and runs on.
+-- It comes between the take's start and the switch: the task is Ready at once, and continues to run.
 abbrev pub in_the_window : Injected
 in_the_window = record {
   app = one_take;
@@ -74,7 +75,7 @@ in_the_window = record {
   };
 }
 
--- While the task waits, it wakes.
+-- It comes while the task waits: the task wakes.
 abbrev pub while_it_waits : Injected
 while_it_waits = record {
   app = one_take;
@@ -89,7 +90,7 @@ while_it_waits = record {
   };
 }
 
--- After its deadline and before its end, the take answers the count still.
+-- It comes after the take's deadline and before its end: the take still returns the count.
 abbrev pub after_its_deadline : Injected
 after_its_deadline = record {
   app = one_take;
@@ -111,7 +112,7 @@ abbrev pub two_counts : List Op → Application
 two_counts script =
     with_handler [] (notifies a Increment ∷ notifies a Increment ∷ []) (a_task_of 2 (codes "a") script ∷ [])
 
--- Two events in one go wake the task once, and a take of all of them answers 2. The next take finds none.
+-- Two increments by one handler wake the task once, and a take of the whole count returns 2. The next take finds none.
 abbrev pub takes_both_at_once : Injected
 takes_both_at_once = record {
   app = two_counts (take_all 9 ∷ take_all 0 ∷ []);
@@ -141,7 +142,7 @@ takes_one_by_one = record {
   };
 }
 
--- A notification that leaves the count 0 wakes a take, which answers 0. It is pending no more then.
+-- A notification that leaves the count 0 wakes a take, which returns 0. The notification is then no longer pending.
 abbrev pub takes_nothing : Injected
 takes_nothing = record {
   app = the_application 0 (
@@ -160,7 +161,7 @@ takes_nothing = record {
 
 -- ---- values
 
--- `keep` leaves the value while a notification is pending, and answers 0. `overwrite` doesn't.
+-- `keep` leaves the value unchanged while a notification is pending, and returns 0. `overwrite` doesn't.
 abbrev pub keeps_and_overwrites : Injected
 keeps_and_overwrites = record {
   app = alone_with (
@@ -179,8 +180,8 @@ keeps_and_overwrites = record {
   };
 }
 
--- Where a notification is pending, a wait clears nothing at its start, and the bits of its end after its answer. Where none is, it
--- is the other way round.
+-- If a notification is pending, a wait clears nothing at its start, and clears its exit bits after it has its result. If none is
+-- pending, it clears its entry bits at its start, and no exit bits if it times out.
 abbrev pub clears_its_masks : Injected
 clears_its_masks = record {
   app = alone_with (
@@ -197,7 +198,7 @@ clears_its_masks = record {
   };
 }
 
--- A wait that ends at its deadline answers `none`, and clears nothing at its end.
+-- A wait that ends at its deadline returns `none`, and clears nothing at its end.
 abbrev pub waits_in_vain : Injected
 waits_in_vain = record {
   app = alone_with (
@@ -229,9 +230,9 @@ handler_has_no_value = record {
   run = record { events = []; steps = 1; ticks = 0; end = HandlerCheck h 0 };
 }
 
--- ---- who wakes, and who doesn't
+-- ---- which tasks wake, and which don't
 
--- Who is woken runs at once, if it is higher than the one that notifies.
+-- A woken task runs at once if its priority is higher than that of the notifying task.
 abbrev pub goes_first : Injected
 goes_first = record {
   app = the_application 0 (
@@ -249,7 +250,8 @@ goes_first = record {
   };
 }
 
--- One who is suspended meanwhile is not woken, and finds the value when it is resumed. A resume of one who waits does nothing.
+-- A task that is suspended while it waits is not woken, and finds the value when it is resumed. Resuming a task that is only
+-- waiting does nothing.
 abbrev pub suspended_is_not_woken : Injected
 suspended_is_not_woken = record {
   app = the_application 0 (
@@ -267,7 +269,7 @@ suspended_is_not_woken = record {
   };
 }
 
--- One whose deadline has come keeps its place among its equals, and answers the count.
+-- A task whose deadline has come keeps its place among tasks of its priority, and returns the count.
 abbrev pub late_keeps_its_place : Injected
 late_keeps_its_place = record {
   app = interrupted_at 1 (with_handler [] (notifies a Increment ∷ []) (
@@ -284,7 +286,7 @@ late_keeps_its_place = record {
   };
 }
 
--- Nobody notifies one that waits for ever.
+-- No one notifies a task that waits forever.
 abbrev pub never_notified : Injected
 never_notified = record {
   app = alone_with (AwaitNotification (Take true) None ∷ []);
@@ -294,7 +296,7 @@ never_notified = record {
 
 -- ---- misuses
 
--- A clear may be called while the scheduler is suspended, and a notify may not.
+-- A clear is allowed while the scheduler is suspended, but a notify is not.
 abbrev pub notifies_while_suspended : Injected
 notifies_while_suspended = record {
   app = alone_with (SuspendAll ∷ ClearNotification Pending ∷ ClearNotification (Bits 1) ∷ Notify a Nothing ∷ []);
@@ -307,7 +309,7 @@ notifies_while_suspended = record {
   };
 }
 
--- Nor a take in a critical section, though it wouldn't wait.
+-- A take isn't allowed in a critical section, even if it wouldn't wait.
 abbrev pub takes_while_critical : Injected
 takes_while_critical = record {
   app = alone_with (EnterCritical ∷ ClearNotification Pending ∷ ClearNotification (Bits 1) ∷ take_all 0 ∷ []);

@@ -1,4 +1,4 @@
--- Which ops take a notification, in words.
+-- Which ops take a notification, in plain terms.
 use Rattle.std.specs.Prelude.{◌≡◌, ◌||◌, ℕ, Bool, true, false, Option, Some, nat_eq}
 use Rattle.std.specs.Option.{IfSome, option_eq}
 use Rattle.model.specs.declared.call.Phase.{Phase}
@@ -12,7 +12,7 @@ use Rattle.model.specs.Application.{Application, op_at}
 use Rattle.model.specs.Notifications.{entered, is_there}
 use Rattle.model.specs.State.{State, call_at, notification_at, progress_at}
 
--- The wait is over with this phase, which finds this notification.
+-- The wait ends in this phase, which finds this notification.
 abbrev pub is_last_phase : NotificationWait → Option ℕ → Phase → Notification → Bool
 is_last_phase wait ticks Start n = is_there wait (entered wait n) || option_eq nat_eq ticks (Some 0)
 is_last_phase wait ticks Leave n = false
@@ -25,7 +25,7 @@ takes_notification s task (AwaitNotification wait ticks) =
 takes_notification s task (ClearNotification Pending) = true
 takes_notification s task _ = false
 
--- In this state the running task is another, or its op doesn't take its notification.
+-- In this state another task or idle runs, or the task's op doesn't take its notification.
 abbrev pub TakesNone : Application → ℕ → State → Type 0
 TakesNone app task s =
     s.current ≡ Some task → IfSome (op_at app task (progress_at s task).op_index) (λ op. takes_notification s task op ≡ false)

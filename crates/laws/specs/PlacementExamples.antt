@@ -1,4 +1,4 @@
--- Worked examples of placements: all of them in an application of two steps, and of one.
+-- Worked examples of placements: all placements of an application of two steps, and of one with one step.
 use Rattle.model.specs.declared.value.Value.TheVariants.{Number}
 use Rattle.std.specs.Prelude.{◌≡◌, ℕ, ⊤, true, List, [], ◌∷◌, codes, length, map}
 use Rattle.std.specs.List.{AllByRecursion}
@@ -18,14 +18,14 @@ does_nothing = a_handler (codes "h") []
 abbrev pub with_script : List Op → Application
 with_script script = record (the_application 0 (a_task (codes "a") script ∷ [])) { handlers = does_nothing ∷ does_nothing ∷ [] }
 
--- its run has two steps
+-- an application whose run has two steps
 abbrev pub two_steps : Application
 two_steps = with_script (Mark (Number 1) ∷ Mark (Number 2) ∷ [])
 
 abbrev pub one_step : Application
 one_step = with_script (Mark (Number 1) ∷ [])
 
--- With at most so many injections of these handlers it has this many placements.
+-- With at most this many injections of these handlers, the application has this number of placements.
 pub record HasPlacements (app : Application) (handlers : List ℕ) (most number : ℕ) : Type 0 where
   pub all : List Placed
   pub are_all : AreAll app wide handlers most all
@@ -35,7 +35,7 @@ pub record HasPlacements (app : Application) (handlers : List ℕ) (most number 
 abbrev pub handlers_of : Placed → List ℕ
 handlers_of p = map (λ (i : Injection). i.handler) p.injections
 
--- Its placements are those of these handlers, in some order.
+-- Listed in some order, its placements have exactly these lists of handlers.
 pub record HasPlacementsOf (app : Application) (handlers : List ℕ) (most : ℕ) (of : List (List ℕ)) : Type 0 where
   pub all : List Placed
   pub are_all : AreAll app wide handlers most all
@@ -45,7 +45,7 @@ pub record HasPlacementsOf (app : Application) (handlers : List ℕ) (most : ℕ
 abbrev at : ℕ → ℕ → Injection
 at step handler = record { step = step; handler = handler }
 
--- in their order: fewer injections, then an earlier step, then a handler that is earlier in the file
+-- placements in their order: fewer injections first, then the earlier step, then the handler that is earlier in the file
 abbrev pub rising : List (List Injection)
 rising =
     []

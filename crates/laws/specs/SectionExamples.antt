@@ -1,4 +1,4 @@
--- Worked examples with critical sections: applications, what is injected, and what their runs come to.
+-- Worked examples with critical sections: applications, injections, and the runs that result.
 use Rattle.model.specs.declared.value.Value.TheVariants.{Number}
 use Rattle.std.specs.Prelude.{ℕ, List, [], ◌∷◌, codes}
 use Rattle.model.specs.declared.object.ObjectKind.TheVariants.{Queue, Mutex}
@@ -19,7 +19,7 @@ use Rattle.laws.specs.HandlerExamples.{Injected, a_handler, with_handler, sends,
 
 -- ---- words
 
--- an application of this task alone, and of two handlers, of which each marks that it comes
+-- an application of only this task, and of two handlers that each mark that they come
 abbrev pub with_two_handlers : List Op → Application
 with_two_handlers script =
     record (the_application 0 (a_task (codes "a") script ∷ [])) {
@@ -32,14 +32,14 @@ with_two_handlers script =
 abbrev pub second : ℕ
 second = 1
 
--- The task, the handler marks with this number.
+-- The task, or the handler, marks with this number.
 abbrev pub mark : ℕ → ℕ → What
 mark task number = what.Mark task number
 
 abbrev pub isr_mark : ℕ → ℕ → What
 isr_mark handler number = what.IsrMark handler number
 
--- A run of the one task a: its script, which ends at the op of this index with this misuse. It has no line.
+-- A run of a single task a: it ends at the op of this index of its script with this misuse. No line is written.
 abbrev pub misuses : List Op → (op_index steps : ℕ) → Misuse → Injected
 misuses script op_index steps m = record {
   app = the_application 0 (a_task (codes "a") script ∷ []);
@@ -47,7 +47,7 @@ misuses script op_index steps m = record {
   run = record { events = []; steps = steps; ticks = 0; end = end.Misuse a op_index m };
 }
 
--- the same, where the first op is `suspend_all`, which has its line
+-- the same, but the first op is `suspend_all`, which has its line
 abbrev pub misuses_while_suspended : List Op → (op_index steps : ℕ) → Misuse → Injected
 misuses_while_suspended script op_index steps m = record {
   app = the_application 0 (a_task (codes "a") (SuspendAll ∷ script) ∷ []);
@@ -55,9 +55,9 @@ misuses_while_suspended script op_index steps m = record {
   run = record { events = event_at 0 0 (call a 0 0) ∷ []; steps = steps; ticks = 0; end = end.Misuse a op_index m };
 }
 
--- ---- when a handler comes that is injected inside
+-- ---- when a handler comes that is injected inside a section
 
--- Not after the inner one of two exits, but after the outer one; it wakes a higher task, which runs at once.
+-- It comes after the outer of two exits, not after the inner one. It wakes a higher task, which runs at once.
 abbrev pub after_the_outer_exit : Injected
 after_the_outer_exit = record {
   app = with_handler (Queue 1 ∷ []) (sends 0 4 ∷ []) (
@@ -75,8 +75,7 @@ after_the_outer_exit = record {
   };
 }
 
--- While the scheduler is suspended too, the handler comes after the exit, and the task that it wakes runs when
--- the scheduler is resumed.
+-- If the scheduler is suspended too, the handler comes after the exit. The task that it wakes runs when the scheduler is resumed.
 abbrev pub inside_a_suspension : Injected
 inside_a_suspension = record {
   app = with_handler (Queue 1 ∷ []) (sends 0 4 ∷ []) (
@@ -93,7 +92,7 @@ inside_a_suspension = record {
   };
 }
 
--- Where the exit is the last op of all that run, the handler comes before the step of idle.
+-- If the exit is the last op of all running tasks, the handler comes before the step of idle.
 abbrev pub before_idle : Injected
 before_idle = record {
   app = with_handler [] (isr_op.Mark (Number 1) ∷ []) (
@@ -109,7 +108,7 @@ before_idle = record {
   };
 }
 
--- Where the run ends with the exit, it never comes.
+-- If the run ends with the exit, the handler never comes.
 abbrev pub after_the_end : Injected
 after_the_end = record {
   app = with_handler [] (isr_op.Mark (Number 1) ∷ []) (a_task (codes "a") (EnterCritical ∷ ExitCritical ∷ []) ∷ []);
@@ -117,7 +116,7 @@ after_the_end = record {
   run = record { events = event_at 1 0 idles ∷ []; steps = 2; ticks = 0; end = end.Pass };
 }
 
--- Pending ones come in the order of the file, and before that which is injected at the step after the exit.
+-- Pending handlers come in the order of the file, before a handler that is injected at the step after the exit.
 abbrev pub in_the_order_of_the_file : Injected
 in_the_order_of_the_file = record {
   app = with_two_handlers (EnterCritical ∷ Mark (Number 7) ∷ ExitCritical ∷ Mark (Number 8) ∷ []);
@@ -132,7 +131,7 @@ in_the_order_of_the_file = record {
   };
 }
 
--- One that is injected before the section comes at once. One that is injected inside twice comes once.
+-- A handler that is injected before the section comes at once. One that is injected twice inside comes once.
 abbrev pub twice_and_once : Injected
 twice_and_once = record {
   app = with_two_handlers (EnterCritical ∷ Mark (Number 7) ∷ ExitCritical ∷ Mark (Number 8) ∷ []);
@@ -149,23 +148,23 @@ twice_and_once = record {
 
 -- ---- misuses
 
--- No time passes inside.
+-- Letting time pass inside a section is a misuse.
 abbrev pub works_inside : Injected
 works_inside = misuses (EnterCritical ∷ Work 1 ∷ []) 1 2 misuse.WhileCritical
 
--- The scheduler is not resumed inside.
+-- Resuming the scheduler inside a section is a misuse.
 abbrev pub resumes_inside : Injected
 resumes_inside = misuses_while_suspended (EnterCritical ∷ ResumeAll ∷ []) 2 3 misuse.WhileCritical
 
--- Another exit, where no section is open.
+-- An exit while no section is open is a misuse.
 abbrev pub one_exit_too_many : Injected
 one_exit_too_many = misuses (EnterCritical ∷ ExitCritical ∷ ExitCritical ∷ []) 2 3 misuse.NotCritical
 
--- A task comes to the end of its script inside.
+-- A task reaches the end of its script inside a section.
 abbrev pub ends_inside : Injected
 ends_inside = misuses (EnterCritical ∷ EnterCritical ∷ ExitCritical ∷ []) 2 3 misuse.EndedCritical
 
--- Where two misuses fit, the run ends with the one that was there before there were sections.
+-- If two misuses apply, the run ends with the one that isn't about sections.
 abbrev pub yields_inside_both : Injected
 yields_inside_both = misuses_while_suspended (EnterCritical ∷ Yield ∷ []) 2 3 misuse.WhileSuspended
 

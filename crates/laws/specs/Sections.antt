@@ -1,4 +1,4 @@
--- Stretches of a run in which critical sections are open.
+-- Parts of a run during which critical sections are open.
 use Rattle.std.specs.Prelude.{ℕ, zero, suc, ◌&&◌, Bool, true, false, []}
 use Rattle.model.specs.declared.event.What.{What}
 use Rattle.model.specs.declared.event.What.TheVariants.{Isr, IsrNone, IsrMark}
@@ -13,12 +13,12 @@ abbrev pub alone : Application → Limits → ℕ → State → State
 alone app limits zero s = s
 alone app limits (suc n) s = alone app limits n (step app limits [] s)
 
--- Before each of this many such steps a critical section is open.
+-- A critical section is open before each of this many steps without injections.
 abbrev pub are_critical : Application → Limits → ℕ → State → Bool
 are_critical app limits zero s = true
 are_critical app limits (suc n) s = is_critical s && are_critical app limits n (step app limits [] s)
 
--- The handler is pending, and has come.
+-- The handler has become pending, and its coming is recorded.
 abbrev pub made_pending : Application → ℕ → State → State
 made_pending app handler s = note_coming app handler (with_source handler (record (source_at s handler) { pending = true }) s)
 

@@ -1,6 +1,5 @@
--- Worked examples with handlers that are armed, disarmed, raised and cancelled, or whose comings must be apart: applications, what
--- is
--- injected, and what their runs come to.
+-- Worked examples with handlers that are armed, disarmed, raised and cancelled, or whose comings must be apart: applications,
+-- injections, and the runs that result.
 use Rattle.model.specs.declared.value.Value.TheVariants.{Number}
 use Rattle.std.specs.Prelude.{ℕ, true, false, List, [], ◌∷◌, codes}
 use Rattle.model.specs.declared.object.ObjectKind.TheVariants.{Queue}
@@ -22,31 +21,31 @@ use Rattle.laws.specs.TicklessExamples.{tickless_within}
 
 -- ---- words
 
--- an application of the task a alone, with this script, and of these handlers
+-- an application of only the task a, with this script, and of these handlers
 abbrev pub with_handlers : List Handler → List Op → Application
 with_handlers handlers script = record (the_application 0 (a_task (codes "a") script ∷ [])) { handlers = handlers }
 
--- one of one handler
+-- an application of one handler
 abbrev pub with_one : Handler → List Op → Application
 with_one handler script = with_handlers (handler ∷ []) script
 
--- The handler marks that it comes, and then does these ops.
+-- The handler marks that it comes, and then executes these ops.
 abbrev pub marks_and : List IsrOp → Handler
 marks_and ops = a_handler (codes "h") (isr_op.Mark (Number 1) ∷ ops)
 
--- It is disarmed at reset.
+-- The handler is disarmed at reset.
 abbrev pub disarmed : Handler → Handler
 disarmed handler = record handler { armed = false }
 
--- Its comings must be so far apart.
+-- The handler's comings must be at least this many ticks apart.
 abbrev pub apart_by : ℕ → Handler → Handler
 apart_by ticks handler = record handler { apart = ticks }
 
--- It comes in this step, at this tick.
+-- The handler comes in this step, at this tick.
 abbrev pub comes : ℕ → ℕ → Event
 comes step tick = event_at step tick (isr_mark h 1)
 
--- a run that passes after so many steps, at this tick
+-- a run that passes after this many steps, at this tick
 abbrev pub passes : List Event → (steps ticks : ℕ) → Run
 passes events steps ticks = record { events = events; steps = steps; ticks = ticks; end = end.Pass }
 
@@ -56,7 +55,7 @@ passes events steps ticks = record { events = events; steps = steps; ticks = tic
 abbrev pub arms_it : Application
 arms_it = with_one (disarmed (marks_and [])) (op.Source h Arm ∷ Mark (Number 2) ∷ [])
 
--- It can't come before the step that arms it. That point's row is the base run.
+-- It can't come before the step that arms it. The row of that point is the base run.
 abbrev pub before_it_is_armed : Row
 before_it_is_armed = record {
   app = arms_it;
@@ -65,7 +64,7 @@ before_it_is_armed = record {
   row = passes (event_at 1 0 (mark a 2) ∷ event_at 1 0 idles ∷ []) 2 0;
 }
 
--- It can before the next.
+-- It can come before the next step.
 abbrev pub when_it_is_armed : Row
 when_it_is_armed = record {
   app = arms_it;
@@ -86,7 +85,7 @@ disarms_itself = record {
   run = passes (comes 0 0 ∷ event_at 1 2 idles ∷ []) 2 2;
 }
 
--- One that is pending comes, though it is disarmed before the critical section ends.
+-- A pending handler comes, though it is disarmed before the critical section ends.
 abbrev pub pending_and_disarmed : Injected
 pending_and_disarmed = record {
   app = with_one (marks_and []) (EnterCritical ∷ op.Source h Disarm ∷ ExitCritical ∷ Mark (Number 2) ∷ []);
@@ -104,7 +103,7 @@ base_and_disarmed = record {
 
 -- ---- comings that must be apart
 
--- One tick after the last the handler can't come, and two ticks after it can.
+-- One tick after its last coming the handler can't come, but after two ticks it can.
 abbrev pub too_soon : Injected
 too_soon = record {
   app = with_one (apart_by 2 (marks_and [])) (Work 4 ∷ []);
@@ -112,7 +111,7 @@ too_soon = record {
   run = passes (comes 0 0 ∷ comes 2 2 ∷ event_at 3 4 idles ∷ []) 4 4;
 }
 
--- A base interrupt is a coming too.
+-- A base interrupt counts as a coming too.
 abbrev pub after_a_base_interrupt : Injected
 after_a_base_interrupt = record {
   app = interrupted_at 1 (with_one (apart_by 3 (marks_and [])) (Work 5 ∷ []));
@@ -130,7 +129,7 @@ again_and_again = record {
   run = passes (comes 2 2 ∷ comes 5 5 ∷ event_at 7 7 idles ∷ []) 8 7;
 }
 
--- One that is cancelled before its tick doesn't come.
+-- A handler that is cancelled before its tick doesn't come.
 abbrev pub cancelled_before : Injected
 cancelled_before = record {
   app = with_one (marks_and []) (op.Source h (Raise 2) ∷ Work 1 ∷ op.Source h Cancel ∷ Work 3 ∷ []);
@@ -138,7 +137,7 @@ cancelled_before = record {
   run = passes (event_at 5 4 idles ∷ []) 6 4;
 }
 
--- One that is raised anew comes at the later tick alone.
+-- A handler that is raised anew comes only at the later tick.
 abbrev pub raised_anew : Injected
 raised_anew = record {
   app = with_one (marks_and []) (op.Source h (Raise 2) ∷ Work 1 ∷ op.Source h (Raise 3) ∷ Work 4 ∷ []);
@@ -146,7 +145,7 @@ raised_anew = record {
   run = passes (comes 5 4 ∷ event_at 6 5 idles ∷ []) 7 5;
 }
 
--- One that is injected before its tick comes then too.
+-- A handler that is injected before the tick for which it is raised also comes at that tick.
 abbrev pub injected_meanwhile : Injected
 injected_meanwhile = record {
   app = with_one (disarmed (marks_and [])) (op.Source h (Raise 2) ∷ op.Source h Arm ∷ Work 3 ∷ []);
@@ -154,7 +153,7 @@ injected_meanwhile = record {
   run = passes (comes 2 0 ∷ comes 3 2 ∷ event_at 4 3 idles ∷ []) 5 3;
 }
 
--- Of two that are raised for one tick the first cancels the second, which comes all the same.
+-- Two handlers are raised for the same tick. The first cancels the second, which still comes.
 abbrev pub due_already : Injected
 due_already = record {
   app = with_handlers (
@@ -164,7 +163,7 @@ due_already = record {
   run = passes (comes 2 1 ∷ event_at 2 1 (isr_mark second 2) ∷ event_at 3 2 idles ∷ []) 4 2;
 }
 
--- A device answers five ticks after it was asked. Idle sleeps up to that, and isn't stuck.
+-- A device responds five ticks after it was asked. Idle sleeps until then, and the run isn't stuck.
 abbrev pub answers_later : Injected
 answers_later = record {
   app = tickless_within 1000 (with_handler (Queue 1 ∷ []) (sends 0 7 ∷ []) (

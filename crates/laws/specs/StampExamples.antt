@@ -1,4 +1,4 @@
--- Worked examples of tasks that measure time: applications, what is injected, and what their runs come to.
+-- Worked examples of tasks that measure time: applications, injections, and the runs that result.
 use Rattle.model.specs.declared.value.Value.TheVariants.{Number}
 use Rattle.std.specs.Prelude.{List, [], ◌∷◌, codes}
 use Rattle.model.specs.declared.answer.AnswerCondition.TheVariants.{Below, Above}
@@ -8,7 +8,7 @@ use Rattle.laws.specs.Examples.{a_task, a_task_of, the_application, a, b, event_
 use Rattle.laws.specs.HandlerExamples.{Injected}
 use Rattle.laws.specs.TicklessExamples.{sleeper}
 
--- At first the time is measured from reset, past the wrap of the tick too. While the scheduler is held the time doesn't change.
+-- At first the time is measured from reset, even past the wrap of the tick. While the scheduler is held, the time doesn't change.
 abbrev pub measures_its_time : Injected
 measures_its_time = record {
   app = the_application 4294967290 (a_task (codes "a") (
@@ -27,7 +27,7 @@ measures_its_time = record {
   };
 }
 
--- More ticks than 32 bits hold are answered as the most that they hold.
+-- If the number of ticks doesn't fit in 32 bits, the result is the largest number that does.
 abbrev pub measures_as_much_as_may_be : Injected
 measures_as_much_as_may_be = record {
   app = sleeper 10000000000 (Stamp ∷ Delay 4294967294 ∷ Since ∷ Delay 1 ∷ Since ∷ Delay 1 ∷ Since ∷ []);
@@ -44,7 +44,7 @@ measures_as_much_as_may_be = record {
   };
 }
 
--- A deadline: the first time it is kept, and the second time a higher task works meanwhile.
+-- A deadline: it is met the first time. The second time a higher task runs in the meantime, and it is missed.
 abbrev pub misses_its_deadline : Injected
 misses_its_deadline = record {
   app = the_application 0 (

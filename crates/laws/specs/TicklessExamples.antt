@@ -1,4 +1,4 @@
--- Worked examples that are tickless: applications, what is injected, and what their runs come to.
+-- Worked examples of tickless applications: applications, injections, and the runs that result.
 use Rattle.model.specs.declared.value.Value.TheVariants.{Number}
 use Rattle.std.specs.Prelude.{ℕ, true, List, [], ◌∷◌, codes}
 use Rattle.model.specs.declared.object.ObjectKind.TheVariants.{Queue}
@@ -14,21 +14,21 @@ use Rattle.laws.specs.HandlerExamples.{Injected, with_handler, interrupted_at, p
 
 -- ---- words
 
--- the application is tickless, and this many ticks may elapse
+-- the same application, but tickless and with this limit of ticks
 abbrev pub tickless_within : ℕ → Application → Application
 tickless_within ticks app = record app { tickless = true; limits = record { ticks = ticks; steps = 1000000 } }
 
--- one of one task with this script, that starts at 0
+-- a tickless application of one task with this script, that starts at 0
 abbrev pub sleeper : ℕ → List Op → Application
 sleeper ticks script = tickless_within ticks (the_application 0 (a_task (codes "a") script ∷ []))
 
--- one of one task that sleeps for ten ticks, and a handler that writes
+-- an application of one task that sleeps for ten ticks, and of a handler that writes a mark
 abbrev pub ten_ticks : Application
 ten_ticks = with_handler [] (isr_op.Mark (Number 1) ∷ []) (a_task (codes "a") (Delay 10 ∷ Time ∷ []) ∷ [])
 
 -- ---- the table
 
--- The longest sleep is one step, and the next one goes past the wrap of the tick; `delay_until` counts the ticks of both.
+-- The longest sleep is one step, and the next one passes the wrap of the tick. `delay_until` counts the ticks of both.
 abbrev pub long_sleeps : Injected
 long_sleeps = record {
   app = sleeper 10000000000 (Delay 4294967295 ∷ Delay 2 ∷ DelayUntil 1 ∷ DelayUntil 4294967295 ∷ Time ∷ []);
@@ -44,7 +44,7 @@ long_sleeps = record {
   };
 }
 
--- Idle sleeps up to a base interrupt, and from there on.
+-- Idle sleeps until a base interrupt, and then continues to sleep.
 abbrev pub up_to_an_interrupt : Injected
 up_to_an_interrupt = record {
   app = tickless_within 1000000 (interrupted_at 3 ten_ticks);
@@ -59,7 +59,7 @@ up_to_an_interrupt = record {
   };
 }
 
--- Idle sleeps up to the limit, and no further.
+-- Idle sleeps until the limit, and no further.
 abbrev pub up_to_the_limit : Injected
 up_to_the_limit = record {
   app = sleeper 5 (Delay 10 ∷ Time ∷ []);
@@ -72,8 +72,8 @@ up_to_the_limit = record {
   };
 }
 
--- Two sleep until one time, which is that of a base interrupt and the wrap of the tick: the interrupt comes first, and then both
--- run. Ticks to an interrupt count from reset, and not from tick 0.
+-- Two tasks sleep until the same time, at which a base interrupt comes and the tick wraps. The interrupt comes first, and then
+-- both run. The tick of an interrupt counts from reset, not from tick 0.
 abbrev pub all_at_the_wrap : Injected
 all_at_the_wrap = record {
   app =
@@ -115,7 +115,7 @@ woken_from_idle = record {
   };
 }
 
--- It is sent when nobody waits for it: idle sleeps on in that step.
+-- The item is sent while no task waits for it: idle continues to sleep in that step.
 abbrev pub sleeps_on : Injected
 sleeps_on = record {
   app = long_receive;

@@ -1,4 +1,4 @@
--- Worked examples with variables and values: applications, what is injected, and what their runs come to.
+-- Worked examples with variables and values: applications, injections, and the runs that result.
 use Rattle.std.specs.Prelude.{ℕ, List, [], ◌∷◌, Some, None, codes}
 use Rattle.model.specs.declared.value.Arithmetic.{Arithmetic}
 use Rattle.model.specs.declared.value.Arithmetic.TheVariants.{Add, Sub, Mul, Div, Mod, And, Or, Xor}
@@ -38,11 +38,11 @@ q = 0
 abbrev pub p : ℕ
 p = 1
 
--- The application has variables, which are this at first.
+-- The application has variables with these initial values.
 abbrev pub with_variables : List ℕ → Application → Application
 with_variables initial app = record app { variables = initial }
 
--- what this variable is
+-- the value of this variable
 abbrev pub variable : ℕ → value.Value
 variable number = Variable (record { number = number })
 
@@ -65,7 +65,7 @@ isr_store number new = isr_op.Value (value_op.Store (record { number = number })
 abbrev pub isr_compute : Arithmetic → value.Value → IsrOp
 isr_compute kind other = isr_op.Value (value_op.Compute kind other)
 
--- a task alone, and variables that are this at first
+-- an application of one task, and of variables with these initial values
 abbrev pub task_alone : List ℕ → List Op → Application
 task_alone initial script = with_variables initial (with_objects [] (a_task (codes "a") script ∷ []))
 
@@ -134,7 +134,7 @@ lost_before_the_store = record {
   };
 }
 
--- In a critical section the handler comes after the exit, and none is lost.
+-- With a critical section the handler comes after the exit, and no update is lost.
 abbrev pub none_lost_inside : Injected
 none_lost_inside = record {
   app = guarded;
@@ -206,7 +206,7 @@ loses_high_bits = record {
   };
 }
 
--- A quotient by a variable that is 0 is a failed check.
+-- Dividing by a variable that is 0 is a failed check.
 abbrev pub divides_by_nothing : Injected
 divides_by_nothing = record {
   app = task_alone (0 ∷ []) (load x ∷ compute Add (Number 8) ∷ compute Div (variable x) ∷ []);
@@ -219,7 +219,7 @@ divides_by_nothing = record {
   };
 }
 
--- A remainder by a variable that is 0 is one too.
+-- So is the remainder of a division by a variable that is 0.
 abbrev pub no_remainder : Injected
 no_remainder = record {
   app = task_alone (0 ∷ []) (load x ∷ compute Add (Number 8) ∷ compute Mod (variable x) ∷ []);
@@ -247,7 +247,7 @@ stores_nothing = record {
   };
 }
 
--- A receive answers `none`, to which nothing can be added.
+-- A receive returns `none`, and nothing can be added to that.
 abbrev pub adds_to_nothing : Injected
 adds_to_nothing = record {
   app =
@@ -262,7 +262,7 @@ adds_to_nothing = record {
   };
 }
 
--- A mark of the last answer has none before the first answer.
+-- A mark of the last answer has no value before the first answer.
 abbrev pub marks_nothing : Injected
 marks_nothing = record {
   app = task_alone [] (Mark Answer ∷ []);
@@ -291,7 +291,7 @@ sends_nothing = record {
   };
 }
 
--- A handler's op without a value ends the handler. The task goes on with the step, which is the last.
+-- A handler's op without a value ends the handler. The step of the task still follows, and is the last one.
 abbrev pub ends_the_handler : Injected
 ends_the_handler = record {
   app =
@@ -306,7 +306,7 @@ ends_the_handler = record {
   };
 }
 
--- It ends that handler alone: another comes after it.
+-- It ends only that handler: another comes after it.
 abbrev pub ends_one_handler : Injected
 ends_one_handler = record {
   app =
@@ -339,7 +339,7 @@ first_of_two = record {
   };
 }
 
--- A misuse is that alone: in a critical section a send isn't allowed, whatever its item.
+-- A misuse counts only as a misuse: in a critical section a send isn't allowed, whatever its item.
 abbrev pub misuse_alone : Injected
 misuse_alone = record {
   app =
@@ -376,7 +376,7 @@ passed_on = record {
   };
 }
 
--- A send that waits sends what the last answer was at its start, though the variable from which it came changes meanwhile.
+-- A send that waits sends the last answer from its start, even if the variable that it was loaded from changes in the meantime.
 abbrev pub sent_as_it_was : Injected
 sent_as_it_was = record {
   app =
@@ -415,7 +415,7 @@ counts_to_a_limit = record {
   };
 }
 
--- A condition holds of what the variable is now.
+-- A condition uses the current value of the variable.
 abbrev pub expects_another : Injected
 expects_another = record {
   app =

@@ -5,7 +5,7 @@ use Rattle.std.specs.Prelude.{IfSome, if◌then◌else◌, min, nat_le, nat_lt}
 use Rattle.std.proofs.lemmas.Bool.{lt-ltb}
 use Rattle.std.proofs.lemmas.List.{length-take}
 use Rattle.std.proofs.lemmas.Option.{slice_get-get_or}
-use Rattle.std.proofs.Math.Nat.{mod-add-div', mod-le, div-lt_iff_lt-mul, min-eq_right, min-le_right, suc-mul}
+use Rattle.std.proofs.Math.Nat.{mod-add-div', mod-le, div-lt_iff_lt-mul, min-eq_right, suc-mul}
 use Rattle.model.specs.declared.plan.Injection.{Injection}
 use Rattle.model.specs.Points.{first_step}
 use Rattle.model.specs.Application.{Application, Limits}
@@ -37,10 +37,6 @@ put_more checkpoints more checkpoint stride next is e =
 either_way : (t : Bool) (a b : ℕ) → b ≤ a → (if t then min a b else b) ≡ b
 either_way true a b l = min-eq_right l
 either_way false a b l = refl
-
-few_either_way : (t : Bool) (a b n : ℕ) → b ≤ n → (if t then min a b else b) ≤ n
-few_either_way true a b n l = omega (arith, min-le_right a b, l)
-few_either_way false a b n l = l
 
 -- From reset it begins at the checkpoint before.
 pub way_from_reset : (stride step : ℕ) → way_to stride 0 step ≡ step % stride

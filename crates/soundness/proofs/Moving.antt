@@ -129,10 +129,6 @@ moves-step app limits sources s =
           omega (arith, b4, k4, m4));
     }
 
-elapsed-nobody : (app : Application) → (nobody_ready app).elapsed ≡ 0
-unfolding nobody_ready
-elapsed-nobody app = refl
-
 suspension-nobody : (app : Application) → suspension_of (nobody_ready app) ≡ record
     { suspensions = 0; held_ticks = 0; sections = 0 }
 unfolding nobody_ready
