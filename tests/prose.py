@@ -70,7 +70,7 @@ REACHED_BY_COMMENTS = {
     "model": {"where": 8, "behind": 2, "answers": 2, "comes to": 2, "is to be": 1, "who waits": 6, "of which": 2, "in force": 2, "whom": 1},
     "lists": {"where": 1}, "task_lists": {}, "groups": {}, "sched": {}, "objects": {}, "machine": {}, "ops": {},
     "integration_tests": {"where": 1}, "unit_tests": {}, "allocation_failures": {}, "reference_kernel": {}, "random_apps": {},
-    "differential_tests": {}, "soundness": {},
+    "differential_tests": {}, "soundness": {}, "laws": {},
     "kernel": {"where": 9, "behind": 5, "answers": 1, "comes to": 12, "is to be": 1, "who waits": 2, "of which": 3, "in force": 8},
     "clock": {"where": 2, "is to be": 2, "who waits": 2, "of which": 1, "whom": 2},
     "byte_io": {"where": 4, "of which": 1}, "shelf": {"where": 4}, "explorer": {"where": 4}, "rows": {"where": 12, "behind": 1, "of which": 1},
