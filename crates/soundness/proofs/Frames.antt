@@ -1,4 +1,4 @@
--- What a deed leaves as it was, as one record for each deed: a field more of the state is a field more here.
+-- What is left as it was by calls that wait, event groups, notifications, the daemon, values, sources and handlers.
 use Rattle.model.specs.declared.value.ValueOp.{ValueOp}
 use Rattle.model.specs.Ops.{calculate, store}
 use Rattle.model.specs.Values.{answer_of, number_of, with_number}

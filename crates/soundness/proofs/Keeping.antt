@@ -1,4 +1,4 @@
--- What is kept of a state by the ops that never wait.
+-- What a deed leaves as it was, as one record: a field more of the state is a field more here. Deeds up to priorities.
 use Rattle.std.proofs.Common.{max, ◌≡◌, ◌+◌, ◌-◌, ◌||◌, ℕ, Bool, eqb, leb, ltb, List, ◌∷◌, Option, Some, []}
 use Rattle.std.proofs.Common.{None}
 use Rattle.std.proofs.Common.{refl, sym, map}
